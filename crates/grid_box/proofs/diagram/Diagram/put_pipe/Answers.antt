@@ -1,0 +1,23 @@
+use Rattle.std.proofs.Common.{◌≡◌, ◌∙◌, sym, ap, subst, cond, true, Some}
+use Rattle.las_base.specs.Cells.{holds}
+use Rattle.grid_box.specs.Drawings.{is_pipe_at, pipe_at}
+use Rattle.grid_box.specs.Slots.{bit_at}
+use Rattle.grid_box.proofs.SlotLemmas.{pipe_at-set, kept_put, lawful_kinds, drawn_by_slots}
+use Rattle.grid_box.proofs.diagram.Diagram.put_pipe.Goals as goal
+
+held : (c : goal.After-self-1) → holds c.self.inside.size c.args.cell ≡ true
+held c = subst (λ d. holds d.size c.args.cell ≡ true) (sym c.self.view_is) c.requires.held
+
+pub invariant_of-self : goal.invariant_of-self
+invariant_of-self c =
+    rw c.slot_number-number.ensures.value (kept_put _ _ _ c.args.axis c.args.cell (Some (c.args.low, c.args.high)) c.self.invariant (held c) (lawful_kinds c.args.axis c.args.low c.args.high c.requires.wall))
+
+pub returns-clause-pipes : goal.returns-clause-pipes
+returns-clause-pipes c a x =
+    let s = c.self.inside.size in
+    rw c.slot_number-number.ensures.value
+    (pipe_at-set s c.self.inside.slots.items (bit_at s c.self.inside.y_bits.items) c.args.axis c.args.cell (Some (c.args.low, c.args.high)) c.self.invariant.slot_count (held c) a x
+    ∙ ap (λ d. cond (is_pipe_at a x (record { axis = c.args.axis; cell = c.args.cell; low = c.args.low; high = c.args.high })) (Some (record { axis = c.args.axis; cell = c.args.cell; low = c.args.low; high = c.args.high })) (pipe_at d a x)) c.self.view_is)
+
+pub returns-clause-drawn : goal.returns-clause-drawn
+returns-clause-drawn c = drawn_by_slots _ _ _ (invariant_of-self c)

@@ -1,0 +1,9 @@
+pub mod Drawings
+pub mod LookUps
+pub mod Slots
+pub mod Legs
+pub mod Scans
+pub mod PipeRules
+pub mod Breaches
+pub mod Sheets
+pub mod Examples

@@ -1,0 +1,25 @@
+// Laws about the definitions, each proved as the contract of a function that does nothing.
+ghost use Rattle.grid_box.specs.LookUps.{LookUpsTell};
+ghost use Rattle.grid_box.specs.Scans.{PipeEndsByScan};
+ghost use Rattle.grid_box.specs.PipeRules.{StaysByAxes};
+ghost use Rattle.grid_box.specs.Breaches.{NoBreachIsValid};
+
+/// Drawings of one size with the same look-ups are one: a drawing's order and its look-ups determine it.
+pub fn look_ups_tell()
+    ensures { LookUpsTell }
+{}
+
+/// The legs of a cell by positions are the ends that a scan of the pipes finds.
+pub fn pipe_ends_by_scan()
+    ensures { PipeEndsByScan }
+{}
+
+/// There is no breach exactly where the diagram is valid.
+pub fn no_breach_is_valid()
+    ensures { NoBreachIsValid }
+{}
+
+/// The rule that pipes stay in the box can be tested axis by axis.
+pub fn stays_by_axes()
+    ensures { StaysByAxes }
+{}

@@ -1,0 +1,47 @@
+//! Diagrams: cubes joined by pipes in a box of cells. Callers see a diagram as a drawing, that is a size,
+//! a list of pipes by axis and low cell, and a list of Y cells. The definitions that every later crate
+//! cites stand here in `specs/`: legs, the eight rules of pipes and colours, the first breach, and
+//! correlation surfaces with their rules. They speak of plain lists, and know nothing of how a diagram
+//! is kept.
+#![tactic(auto)]
+
+mod diagram;
+mod examples;
+mod laws;
+
+pub use diagram::Diagram;
+pub use examples::{
+    colours_differ_at_0_0_1, column_is_valid, comb_has_flow_zz, comb_is_valid,
+    forbidden_cell_is_used_at_0_0_1, one_leg_is_a_dead_end_at_0_0_0, port_shows_x_at_0_0_0,
+    three_axes_meet_at_0_0_1, wire_has_both_flows, wire_is_valid, wire_needs_a_sheet,
+    y_cube_ends_a_leg,
+};
+use las_base::{Axis, Cell, End, Kind};
+pub use laws::{look_ups_tell, no_breach_is_valid, pipe_ends_by_scan, stays_by_axes};
+
+/// The end of a pipe that stands at a cell.
+#[derive(Clone, Copy, PartialEq, Eq, Debug)]
+pub struct Leg {
+    pub axis: Axis,
+    /// Which end of the pipe stands at the cell.
+    pub which: End,
+    /// The kind, at that end, of the faces normal to the axis after the pipe's own.
+    pub kind_next: Kind,
+}
+
+impl Default for Leg {
+    fn default() -> Leg {
+        Leg {
+            axis: Axis::I,
+            which: End::Low,
+            kind_next: Kind::X,
+        }
+    }
+}
+
+/// A rule that is broken, by its number, and the cell that it names.
+#[derive(Clone, Copy, PartialEq, Eq, Debug)]
+pub struct Broken {
+    pub rule: u8,
+    pub cell: Cell,
+}

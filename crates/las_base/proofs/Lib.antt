@@ -1,0 +1,4 @@
+pub mod Blocks
+pub mod Rising
+pub mod Indices
+pub mod Same

@@ -1,0 +1,5 @@
+pub mod WordLemmas
+pub mod PortLemmas
+pub mod FindLemmas
+pub mod MarkLemmas
+pub mod ShownLemmas

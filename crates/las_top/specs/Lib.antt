@@ -1,0 +1,5 @@
+pub mod Ports
+pub mod Bare
+pub mod Entries
+pub mod Check
+pub mod Answers

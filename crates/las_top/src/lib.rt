@@ -1,0 +1,14 @@
+//! The commands. Callers see one call, `run_las`: it reads the words and the source, writes to two sinks,
+//! and answers a status. Its contract says what each answer means, over any source and any sinks.
+#![tactic(auto)]
+
+mod bare;
+mod check;
+mod ports;
+mod rules;
+mod run;
+
+pub use run::{Status, run_las};
+
+#[cfg(test)]
+mod tests;
