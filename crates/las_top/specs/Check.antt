@@ -1,10 +1,14 @@
 -- What `check` finds in a document.
-use Rattle.std.specs.Prelude.{ℕ, List, [], ◌∷◌, Option, Some, None}
+use Rattle.std.specs.Prelude.{ℕ, Bool, List, [], Option, Some, None}
+use Rattle.las_base.specs.declared.Cell.{Cell}
 use Rattle.las_base.specs.Jobs.{Task, task_of}
 use Rattle.grid_box.specs.declared.Broken.{Broken}
-use Rattle.grid_box.specs.PipeRules.{stays_in_box, named_cells}
-use Rattle.grid_box.specs.Breaches.{first_breach}
+use Rattle.grid_box.specs.Drawings.{Drawing}
+use Rattle.grid_box.specs.PipeRules.{stays_in_box, has_port_pipe, y_cube_has_one_k_leg, is_no_dead_end, has_no_three_axes}
+use Rattle.grid_box.specs.Breaches.{pipe_breach}
 use Rattle.las_top.specs.Bare.{Bare, bare_of}
+use Rattle.las_top.specs.declared.rules.Rule.{Rule}
+use Rattle.las_top.specs.declared.rules.Rule.TheVariants.{StaysInBox, PortPipe, YCube, NoDeadEnd, NoThreeAxes}
 use Rattle.las_top.specs.declared.check.Finding.{Finding}
 use Rattle.las_top.specs.declared.check.Finding.TheVariants.{Form, Breach, Valid}
 
@@ -12,9 +16,17 @@ use Rattle.las_top.specs.declared.check.Finding.TheVariants.{Form, Breach, Valid
 abbrev pub bare_task : Bare → Task
 bare_task b = task_of b.drawing.size b.ports [] []
 
--- the first cell with a pipe that leaves the box where there is no port
+-- the first breach of the rules of pipes
 abbrev pub bare_breach : Bare → Option Broken
-bare_breach b = first_breach 1 (stays_in_box (bare_task b) b.drawing ∷ []) (named_cells b.drawing.size)
+bare_breach b = pipe_breach (bare_task b) b.drawing
+
+-- a rule holds at a cell
+abbrev pub keeps : Rule → Task → Drawing → Cell → Bool
+keeps StaysInBox = stays_in_box
+keeps PortPipe = has_port_pipe
+keeps YCube = y_cube_has_one_k_leg
+keeps NoDeadEnd = is_no_dead_end
+keeps NoThreeAxes = has_no_three_axes
 
 -- what is found where the first breach is this
 abbrev pub found_by : Option Broken → Finding

@@ -11,4 +11,6 @@ mod run;
 pub use run::{Status, run_las};
 
 #[cfg(test)]
+mod rule_tests;
+#[cfg(test)]
 mod tests;

@@ -8,13 +8,9 @@ use std::test::Fail;
 const WIRE: &str =
     "{\"ColorI\":[[[0]]],\"ColorJ\":[[[0]]],\"ColorKM\":[[[0]]],\"ColorKP\":[[[0]]],\"CorrIJ\":[[[[0]]],[[[0]]]],\"CorrIK\":[[[[0]]],[[[0]]]],\"CorrJI\":[[[[0]]],[[[0]]]],\"CorrJK\":[[[[0]]],[[[0]]]],\"CorrKI\":[[[[1]]],[[[0]]]],\"CorrKJ\":[[[[0]]],[[[1]]]],\"ExistI\":[[[0]]],\"ExistJ\":[[[0]]],\"ExistK\":[[[1]]],\"NodeY\":[[[0]]],\"max_i\":1,\"max_j\":1,\"max_k\":1,\"optional\":{\"forbidden_cubes\":[]},\"ports\":[{\"direction\":\"+K\",\"location\":[0,0,0],\"z_basis_direction\":\"J\"},{\"direction\":\"-K\",\"location\":[0,0,1],\"z_basis_direction\":\"J\"}],\"stabilizers\":[\"XX\",\"ZZ\"]}\n";
 
-// The same with a pipe along I that leaves through the far face.
-const LEAVING: &str =
-    "{\"ExistI\":[[[1]]],\"ExistJ\":[[[0]]],\"ExistK\":[[[1]]],\"NodeY\":[[[0]]],\"max_i\":1,\"max_j\":1,\"max_k\":1,\"ports\":[{\"direction\":\"+K\",\"location\":[0,0,0],\"z_basis_direction\":\"J\"},{\"direction\":\"-K\",\"location\":[0,0,1],\"z_basis_direction\":\"J\"}]}";
-
-// The pipe along I ends at a port of its own.
-const PORT_OUTSIDE: &str =
-    "{\"ExistI\":[[[1]]],\"ExistJ\":[[[0]]],\"ExistK\":[[[0]]],\"NodeY\":[[[0]]],\"max_i\":1,\"max_j\":1,\"max_k\":1,\"ports\":[{\"direction\":\"-I\",\"location\":[1,0,0],\"z_basis_direction\":\"J\"}]}";
+// A port without its pipe.
+const NO_PIPE: &str =
+    "{\"ExistI\":[[[0]]],\"ExistJ\":[[[0]]],\"ExistK\":[[[0]]],\"NodeY\":[[[0]]],\"max_i\":1,\"max_j\":1,\"max_k\":1,\"ports\":[{\"direction\":\"-K\",\"location\":[0,0,1],\"z_basis_direction\":\"J\"}]}";
 
 const MOST: usize = 4_194_304;
 
@@ -42,23 +38,6 @@ fn answers(
     assert_eq!(rt; status, want.0);
     assert_eq!(rt; out.bytes(), want.1.as_bytes());
     assert_eq!(rt; err.bytes(), want.2.as_bytes());
-    Ok(())
-}
-
-#[test]
-fn documents_get_their_line(rt: HostRuntime) -> Result<(), Fail> {
-    let form = (Status::Refused, "", "refused: form\n");
-    for (text, want) in [
-        (WIRE, (Status::Good, "pipes valid\n", "")),
-        (LEAVING, (Status::No, "", "broken V1 0 0 0\n")),
-        (PORT_OUTSIDE, (Status::Good, "pipes valid\n", "")),
-        ("", form),
-        ("{}", form),
-        ("[]", form),
-        ("\u{e9}", form),
-    ] {
-        answers(&rt, &["check"], text.as_bytes(), want)?;
-    }
     Ok(())
 }
 
@@ -140,15 +119,15 @@ fn faults_are_told_by_their_object(rt: HostRuntime) -> Result<(), Fail> {
     )?;
     faults(
         &rt,
-        LEAVING,
+        NO_PIPE,
         (&[], &[0], &[]),
-        (Status::No, "", "broken V1 0 0 0\n"),
+        (Status::No, "", "broken V2 0 0 1\n"),
     )?;
     faults(
         &rt,
-        LEAVING,
+        NO_PIPE,
         (&[], &[], &[1]),
-        (Status::WriteFault, "", "broken V1 "),
+        (Status::WriteFault, "", "broken V2 "),
     )
 }
 

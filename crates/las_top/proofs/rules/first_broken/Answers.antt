@@ -1,28 +1,15 @@
-use Rattle.std.proofs.Common.{◌∙◌, ◌≤◌, sym, ap, not, [], length, None, Bool, arith}
-use Rattle.std.specs.List.{find}
-use Rattle.las_base.specs.declared.Cell.{Cell}
-use Rattle.las_base.specs.Cells.{cells, widened}
-use Rattle.las_base.specs.Jobs.{task_of}
-use Rattle.las_base.proofs.Blocks.{all_cells}
-use Rattle.grid_box.specs.PipeRules.{stays_in_box}
-use Rattle.grid_box.specs.Breaches.{or_else}
-use Rattle.las_top.proofs.FindLemmas.{found_next, passed_next, none_passed}
+use Rattle.std.proofs.Common.{sym, ◌∙◌}
+use Rattle.las_top.proofs.RuleLemmas.{broken_here, holds_here, all_hold}
 use Rattle.las_top.proofs.rules.first_broken.Goals as goal
 
-pub returns-then-not-stays_in_box : goal.returns-then-not-stays_in_box
-returns-then-not-stays_in_box c =
-    let fails : Cell → Bool = λ x. not (stays_in_box (task_of c.args.diagram.now.size c.args.ports.now [] []) c.args.diagram.now x) in
-    let wide = c.widened-wide.ensures ∙ ap widened c.size.ensures.size in
-    let found = found_next fails (cells c.widened-wide.result) c.loop-number.number c.cell-cell.result c.loop-number.invariant c.cell-cell.ensures.listed (ap not (sym c.stays_in_box.ensures ∙ c.if-not-stays_in_box.true)) in
-    sym (ap (λ o. or_else o 1 None) (ap (λ s. find fails (cells s)) (sym wide) ∙ found))
+pub returns-in-Some : goal.returns-in-Some
+returns-in-Some c =
+    broken_here c.args.diagram.now.size c.args.ports.now c.args.diagram.now c.loop-number.number-index _ c.in-Some.cell c.loop-number-test.true c.loop-number.invariant (sym c.first_failing.ensures ∙ c.in-Some.is)
 
 pub loop-number-preserved : goal.loop-number-preserved
 loop-number-preserved c =
-    passed_next (λ x. not (stays_in_box (task_of c.args.diagram.now.size c.args.ports.now [] []) c.args.diagram.now x)) (cells c.widened-wide.result) c.loop-number.number c.cell-cell.result c.loop-number.invariant c.cell-cell.ensures.listed (ap not (sym c.stays_in_box.ensures ∙ c.if-not-stays_in_box.false))
+    holds_here c.args.diagram.now.size c.args.ports.now c.args.diagram.now c.loop-number.number-index _ c.loop-number-test.true c.loop-number.invariant (sym c.first_failing.ensures ∙ c.in_default.is)
 
 pub returns : goal.returns
 returns c =
-    let fails : Cell → Bool = λ x. not (stays_in_box (task_of c.args.diagram.now.size c.args.ports.now [] []) c.args.diagram.now x) in
-    let wide = c.widened-wide.ensures ∙ ap widened c.size.ensures.size in
-    let all : length (cells c.widened-wide.result) ≤ c.loop-number.number = omega (arith, all_cells c.widened-wide.result, c.volume-number-end.ensures) in
-    sym (ap (λ o. or_else o 1 None) (ap (λ s. find fails (cells s)) (sym wide) ∙ none_passed fails (cells c.widened-wide.result) c.loop-number.number c.loop-number.invariant all))
+    all_hold c.args.diagram.now.size c.args.ports.now c.args.diagram.now c.loop-number.number-index c.loop-number-test.false c.loop-number.invariant

@@ -1,9 +1,8 @@
-use Rattle.std.proofs.Common.{◌≡◌, not, take, None, []}
-use Rattle.std.specs.List.{find}
-use Rattle.las_base.specs.Cells.{cells}
+use Rattle.std.proofs.Common.{◌≡◌, drop, []}
 use Rattle.las_base.specs.Jobs.{task_of}
-use Rattle.grid_box.specs.PipeRules.{stays_in_box}
+use Rattle.las_top.proofs.RuleLemmas.{breach_by, rules}
 use Rattle.las_top.proofs.rules.first_broken.Given as goal
 
 abbrev pub invariant-loop-number : goal.invariant-loop-number
-invariant-loop-number l = find (λ c. not (stays_in_box (task_of l.diagram.size l.ports [] []) l.diagram c)) (take l.number (cells l.wide)) ≡ None
+invariant-loop-number l =
+    breach_by (task_of l.diagram.size l.ports [] []) l.diagram rules ≡ breach_by (task_of l.diagram.size l.ports [] []) l.diagram (drop l.number-index rules)
