@@ -1,4 +1,3 @@
-pub mod WordLemmas
 pub mod PortLemmas
 pub mod FindLemmas
 pub mod MarkLemmas

@@ -1,16 +1,16 @@
--- What `check` finds in a document.
-use Rattle.std.specs.Prelude.{ℕ, Bool, List, [], Option, Some, None}
+-- What `check` answers to a document.
+use Rattle.std.specs.Prelude.{ℕ, Bool, List, [], ◌++◌, codes, Option, Some, None}
+use Rattle.std.specs.Fmt.{decimal}
 use Rattle.las_base.specs.declared.Cell.{Cell}
 use Rattle.las_base.specs.Jobs.{Task, task_of}
 use Rattle.grid_box.specs.declared.Broken.{Broken}
 use Rattle.grid_box.specs.Drawings.{Drawing}
 use Rattle.grid_box.specs.PipeRules.{stays_in_box, has_port_pipe, y_cube_has_one_k_leg, is_no_dead_end, has_no_three_axes}
 use Rattle.grid_box.specs.Breaches.{pipe_breach}
-use Rattle.las_top.specs.Bare.{Bare, bare_of}
 use Rattle.las_top.specs.declared.rules.Rule.{Rule}
 use Rattle.las_top.specs.declared.rules.Rule.TheVariants.{StaysInBox, PortPipe, YCube, NoDeadEnd, NoThreeAxes}
-use Rattle.las_top.specs.declared.check.Finding.{Finding}
-use Rattle.las_top.specs.declared.check.Finding.TheVariants.{Form, Breach, Valid}
+use Rattle.las_top.specs.Bare.{Bare, bare_of}
+use Rattle.las_top.specs.Answers.{Answer, yes_with, no_with, refused}
 
 -- a job with these ports, which asks for no flow and forbids no cell
 abbrev pub bare_task : Bare → Task
@@ -28,16 +28,20 @@ keeps YCube = y_cube_has_one_k_leg
 keeps NoDeadEnd = is_no_dead_end
 keeps NoThreeAxes = has_no_three_axes
 
--- what is found where the first breach is this
-abbrev pub found_by : Option Broken → Finding
-found_by None = Valid
-found_by (Some broken) = Breach broken
+-- the line of a rule that is broken
+abbrev pub broken_line : Broken → List ℕ
+broken_line b = codes "broken V" ++ (decimal b.rule ++ (codes " " ++ (decimal b.cell.i ++ (codes " " ++ (decimal b.cell.j ++ (codes " " ++ (decimal b.cell.k ++ codes "\n")))))))
 
--- what is found in what a document gives
-abbrev pub found_in : Option Bare → Finding
-found_in None = Form
-found_in (Some b) = found_by (bare_breach b)
+-- what is answered where the first breach is this
+abbrev pub answer_to_breach : Option Broken → Answer
+answer_to_breach None = yes_with (codes "pipes valid\n")
+answer_to_breach (Some broken) = no_with (broken_line broken)
 
--- what is found in a document
-abbrev pub finding_of : List ℕ → Finding
-finding_of bytes = found_in (bare_of bytes)
+-- what is answered to what a document gives
+abbrev pub answer_to_bare : Option Bare → Answer
+answer_to_bare None = refused (codes "form")
+answer_to_bare (Some b) = answer_to_breach (bare_breach b)
+
+-- what `check` answers to a document
+abbrev pub check_answer : List ℕ → Answer
+check_answer bytes = answer_to_bare (bare_of bytes)

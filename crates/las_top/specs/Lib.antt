@@ -1,5 +1,7 @@
 pub mod Ports
 pub mod Bare
 pub mod Entries
-pub mod Check
 pub mod Answers
+pub mod Check
+pub mod Findings
+pub mod Runs

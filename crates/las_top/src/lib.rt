@@ -4,6 +4,7 @@
 
 mod bare;
 mod check;
+mod finding;
 mod ports;
 mod rules;
 mod run;

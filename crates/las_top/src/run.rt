@@ -1,12 +1,13 @@
-// The top call: words, then the command, then what it says.
-ghost use Rattle.std.specs.Prelude.{◌≡◌, ◌≢◌, ◌⊎◌, ◌↔◌, ◌≤◌, IsTrue, IfOk, IsErrOf, string_bytes};
-ghost use Rattle.std.specs.Io.KnownBytes.{Appends};
+// The top call: words, then the source, then the command, then what it says.
+ghost use Rattle.std.specs.Prelude.{◌≡◌, ◌⊎◌, None, IfOk, IsErrOf};
 ghost use Rattle.las_io.specs.Counts.{Rose};
-ghost use Rattle.las_top.specs.Answers.{IsCheck, IsAnswer, IsFound, Tells, HasAnswered, broken_line, number_of};
+ghost use Rattle.las_top.specs.Answers.{IsAnswer, number_of};
+ghost use Rattle.las_top.specs.Findings.{answer_by};
+ghost use Rattle.las_top.specs.Runs.{command_of, answer_of, AnswersCommand, AnswersWords, HasAnswered};
 
-use crate::check::{Finding, check};
-use grid_box::Broken;
-use las_io::{ReadRefused, Sink, Source, WriteRefused, write_all};
+use crate::check::check;
+use crate::finding::{Finding, tell};
+use las_io::{ReadRefused, Sink, Source, read_all};
 use std::alloc::{AllocError, Global};
 
 /// How a run ends.
@@ -42,67 +43,45 @@ impl Status {
     }
 }
 
-fn is_check(words: &[String]) -> bool
-    ensures { IsTrue result ↔ IsCheck words.now }
+/// A command, as the words name it.
+#[derive(Clone, Copy, PartialEq, Eq, Debug)]
+enum Command {
+    Check,
+}
+
+const MOST_BYTES: usize = 4_194_304;
+
+fn command_of(words: &[String]) -> Option<Command>
+    ensures { result ≡ command_of words.now }
 {
     match words {
-        [word] => word.as_str() == "check",
-        _ => false,
+        [word] if word.as_str() == "check" => Some(Command::Check),
+        _ => None,
     }
 }
 
-// What is found by the words, and then in the source.
-fn find<S: Source>(alloc: Global, words: &[String], src: &mut S) -> Result<Finding, ReadRefused>
-    ensures found { IfOk result (λ f. IsFound S.left S.given words.now src.old src.new f) }
-    ensures nothing_read { (IsCheck words.now → ⊥) → src.new ≡ src.old }
+fn answer(alloc: Global, command: Command, bytes: &[u8]) -> Result<Finding, AllocError>
+    ensures { IfOk result (λ f. answer_by f ≡ answer_of command bytes.now) }
+{
+    match command {
+        Command::Check => check(alloc, bytes),
+    }
+}
+
+// What a command finds in what the source gives.
+fn find<S: Source>(alloc: Global, command: Command, src: &mut S) -> Result<Finding, ReadRefused>
+    ensures found { IfOk result (λ f. AnswersCommand S.left S.given command src.old src.new (answer_by f)) }
     ensures not_too_long { IsErrOf result ReadRefused.TooLong → ⊥ }
     ensures read_fault { IsErrOf result ReadRefused.ReadFault → Rose (S.faults src.old) (S.faults src.new) }
 {
-    if is_check(words) {
-        check(alloc, src)
-    } else {
-        Ok(Finding::Words)
-    }
-}
-
-fn broken_text(alloc: Global, broken: Broken) -> Result<String, AllocError>
-    ensures { IfOk result (λ text. string_bytes text ≡ broken_line broken) }
-{
-    let Broken { rule, cell } = broken;
-    let (i, j, k) = (cell.i, cell.j, cell.k);
-    format!(in alloc; "broken V{rule} {i} {j} {k}\n")
-}
-
-// Writes a text, and answers the status where all of it stands.
-fn say<K: Sink>(sink: &mut K, text: &[u8], status: Status) -> Status
-    requires { IsAnswer status }
-    ensures told { IsAnswer result → (result ≡ status) × Appends (K.held sink.old) (K.held sink.new) text.now }
-    ensures write_fault { result ≡ Status.WriteFault → Rose (K.faults sink.old) (K.faults sink.new) }
-    ensures no_read_fault { result ≢ Status.ReadFault }
-    ensures faults { K.faults sink.old ≤ K.faults sink.new }
-{
-    match write_all(sink, text) {
-        Ok(()) => status,
-        Err(WriteRefused::WriteFault) => Status::WriteFault,
-        Err(WriteRefused::Memory) => Status::Memory,
-    }
-}
-
-// Tells what is found.
-fn tell<K: Sink, E: Sink>(alloc: Global, finding: Finding, out: &mut K, err: &mut E) -> Status
-    ensures told { IsAnswer result → Tells finding result (K.held out.old) (K.held out.new) (E.held err.old) (E.held err.new) }
-    ensures write_fault { result ≡ Status.WriteFault → Rose (K.faults out.old) (K.faults out.new) ⊎ Rose (E.faults err.old) (E.faults err.new) }
-    ensures no_read_fault { result ≢ Status.ReadFault }
-{
-    match finding {
-        Finding::Words => say(err, b"refused: words\n", Status::Refused),
-        Finding::TooLong => say(err, b"refused: too long\n", Status::Refused),
-        Finding::Form => say(err, b"refused: form\n", Status::Refused),
-        Finding::Breach(broken) => match broken_text(alloc, broken) {
-            Ok(text) => say(err, text.as_bytes(), Status::No),
-            Err(AllocError) => Status::Memory,
+    match read_all(alloc, src, MOST_BYTES) {
+        Ok(bytes) => match answer(alloc, command, &bytes) {
+            Ok(finding) => Ok(finding),
+            Err(AllocError) => Err(ReadRefused::Memory),
         },
-        Finding::Valid => say(out, b"pipes valid\n", Status::Good),
+        Err(ReadRefused::TooLong) => Ok(Finding::TooLong),
+        Err(ReadRefused::ReadFault) => Err(ReadRefused::ReadFault),
+        Err(ReadRefused::Memory) => Err(ReadRefused::Memory),
     }
 }
 
@@ -114,12 +93,12 @@ pub fn run_las<S: Source, K: Sink, E: Sink>(
     out: &mut K,
     err: &mut E,
 ) -> Status
-    // What is found by the words and by what came is told: the status, and all that out and err get.
+    // The answer to the words and to what came is said: its status, and all that out and err get.
     ensures answer { IsAnswer result → HasAnswered S.left S.given words.now src.old src.new result
         (K.held out.old) (K.held out.new) (E.held err.old) (E.held err.new) }
 
     // At every status nothing is read for words that are refused.
-    ensures nothing_read { (IsCheck words.now → ⊥) → src.new ≡ src.old }
+    ensures nothing_read { command_of words.now ≡ None → src.new ≡ src.old }
 
     // A fault is answered only where the count of its object rose in this call.
     ensures read_fault { result ≡ Status.ReadFault → Rose (S.faults src.old) (S.faults src.new) }
@@ -127,9 +106,12 @@ pub fn run_las<S: Source, K: Sink, E: Sink>(
     ensures write_fault { result ≡ Status.WriteFault
         → Rose (K.faults out.old) (K.faults out.new) ⊎ Rose (E.faults err.old) (E.faults err.new) }
 {
-    match find(alloc, words, src) {
-        Ok(finding) => tell(alloc, finding, out, err),
-        Err(ReadRefused::ReadFault) => Status::ReadFault,
-        Err(_) => Status::Memory,
+    match command_of(words) {
+        Some(command) => match find(alloc, command, src) {
+            Ok(finding) => tell(alloc, finding, out, err),
+            Err(ReadRefused::ReadFault) => Status::ReadFault,
+            Err(_) => Status::Memory,
+        },
+        None => tell(alloc, Finding::Words, out, err),
     }
 }
