@@ -10,7 +10,6 @@ use Rattle.json_shape.specs.Arrays.{array_items, is_object}
 use Rattle.json_shape.specs.Documents.{json_of}
 use Rattle.json_shape.specs.Grids.{entries, has_lengths}
 use Rattle.json_shape.specs.GridLaws.{grid_entry}
-use Rattle.json_shape.specs.Numbers.{whole_member}
 use Rattle.las_base.specs.declared.Axis.{Axis}
 use Rattle.las_base.specs.declared.Axis.TheVariants.{I, J, K}
 use Rattle.las_base.specs.declared.Kind.{Kind}
@@ -18,6 +17,7 @@ use Rattle.las_base.specs.declared.Cell.{Cell}
 use Rattle.las_base.specs.declared.Size.{Size}
 use Rattle.las_base.specs.declared.Port.{Port}
 use Rattle.las_base.specs.Jobs.{within_limits}
+use Rattle.las_spec.specs.Documents.{size_in}
 use Rattle.grid_box.specs.Drawings.{Drawing}
 use Rattle.grid_box.specs.LookUps.{drawing_by}
 use Rattle.las_top.specs.Ports.{kept, ports_in}
@@ -27,14 +27,9 @@ pub record Bare : Type 0 where
   pub ports : List Port
   pub drawing : Drawing
 
--- three sides as a size, where all are there
-abbrev pub sides : Option ℕ → Option ℕ → Option ℕ → Option Size
-sides (Some i) (Some j) (Some k) = Some (record { i = i; j = j; k = k })
-sides _ _ _ = None
-
 -- the size of a document, within the limits
-abbrev pub size_in : Data → Option Size
-size_in d = kept within_limits (sides (whole_member (codes "max_i") d) (whole_member (codes "max_j") d) (whole_member (codes "max_k") d))
+abbrev pub lawful_size_in : Data → Option Size
+lawful_size_in d = kept within_limits (size_in d)
 
 -- the list is empty
 abbrev pub is_empty : List Data → Bool
@@ -101,7 +96,7 @@ bare_by _ _ _ = None
 
 -- what a document's value gives
 unfoldable pub bare_in : Data → Option Bare
-bare_in d = option_and_then (λ s. bare_by (ports_in s d) (forbids_nothing d) (drawing_in s d)) (size_in d)
+bare_in d = option_and_then (λ s. bare_by (ports_in s d) (forbids_nothing d) (drawing_in s d)) (lawful_size_in d)
 
 -- what a document gives, or none
 unfoldable pub bare_of : List ℕ → Option Bare

@@ -3,5 +3,6 @@ pub mod Bare
 pub mod Entries
 pub mod Answers
 pub mod Check
+pub mod Spec
 pub mod Findings
 pub mod Runs

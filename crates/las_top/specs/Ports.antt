@@ -1,45 +1,21 @@
 -- The ports of a document.
-use Rattle.std.specs.Prelude.{ℕ, ◌==◌, ◌&&◌, not, nat_le, List, [], ◌∷◌, map, length, codes, Bool, Option, Some, None, option_map, option_and_then, if◌then◌else◌}
+use Rattle.std.specs.Prelude.{ℕ, ◌&&◌, not, nat_le, List, map, length, codes, Bool, Option, Some, None, option_and_then, if◌then◌else◌}
 use Rattle.std.specs.List.{list_all}
 use Rattle.serde_json.specs.Data.{Data}
 use Rattle.serde_json.specs.Find.{get, as_str}
 use Rattle.json_shape.specs.Arrays.{each, objects}
 use Rattle.json_shape.specs.Numbers.{triple}
 use Rattle.las_base.specs.declared.Axis.{Axis}
-use Rattle.las_base.specs.declared.Axis.TheVariants.{I, J, K}
 use Rattle.las_base.specs.declared.Way.{Way}
-use Rattle.las_base.specs.declared.Way.TheVariants.{Plus, Minus}
-use Rattle.las_base.specs.declared.Cell.{Cell}
 use Rattle.las_base.specs.declared.Size.{Size}
 use Rattle.las_base.specs.declared.Port.{Port}
 use Rattle.las_base.specs.Axes.{same_axis}
 use Rattle.las_base.specs.Jobs.{port_fits, distinct_cells}
+use Rattle.las_spec.specs.Documents.{axis_text, cell_of, direction_text}
 
 -- the value, where it passes a test
 abbrev pub kept : {A : Type 0} → (A → Bool) → Option A → Option A
 kept test o = option_and_then (λ x. if test x then Some x else None) o
-
--- the axis of a letter: I, J or K
-abbrev pub axis_letter : ℕ → Option Axis
-axis_letter n = if n == 73 then Some I else (if n == 74 then Some J else (if n == 75 then Some K else None))
-
--- the way of a sign: + or -
-abbrev pub way_sign : ℕ → Option Way
-way_sign n = if n == 43 then Some Plus else (if n == 45 then Some Minus else None)
-
--- an axis as it is written: its letter
-abbrev pub axis_text : List ℕ → Option Axis
-axis_text (n ∷ []) = axis_letter n
-axis_text _ = None
-
--- a direction as it is written: a sign and the letter of an axis
-abbrev pub direction_text : List ℕ → Option (Way × Axis)
-direction_text (s ∷ n ∷ []) = option_and_then (λ w. option_map (λ a. (w, a)) (axis_letter n)) (way_sign s)
-direction_text _ = None
-
--- the cell of three numbers
-abbrev pub cell_of : ℕ × ℕ × ℕ → Cell
-cell_of n = record { i = n.0; j = n.1; k = n.2 }
 
 -- a port of its three parts, where all are there
 abbrev pub made_port : Option (ℕ × ℕ × ℕ) → Option (Way × Axis) → Option Axis → Option Port

@@ -4,14 +4,15 @@ use Rattle.std.specs.Io.KnownBytes.{Appends}
 use Rattle.std.specs.declared.alloc.Global.{Global}
 use Rattle.las_io.specs.Moves.{GivesAll, GivesCount, IsAllLeft}
 use Rattle.las_top.specs.declared.run.Command.{Command}
-use Rattle.las_top.specs.declared.run.Command.TheVariants.{Check}
+use Rattle.las_top.specs.declared.run.Command.TheVariants.{Check, Spec}
 use Rattle.las_top.specs.declared.run.Status.{Status}
 use Rattle.las_top.specs.Answers.{Answer, refused}
 use Rattle.las_top.specs.Check.{check_answer}
+use Rattle.las_top.specs.Spec.{spec_answer}
 
 -- the command of a list of words, where there is one
 abbrev pub command_by : List (List ℕ) → Option Command
-command_by (word ∷ []) = if bytes_eq word (codes "check") then Some Check else None
+command_by (word ∷ []) = if bytes_eq word (codes "check") then Some Check else (if bytes_eq word (codes "spec") then Some Spec else None)
 command_by _ = None
 
 -- the command of the words after the program's name
@@ -21,6 +22,7 @@ command_of words = command_by (map string_bytes words)
 -- what a command answers to a document
 abbrev pub answer_of : Command → List ℕ → Answer
 answer_of Check = check_answer
+answer_of Spec = spec_answer
 
 -- the most bytes of a document
 abbrev pub most_bytes : ℕ

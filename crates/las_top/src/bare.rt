@@ -5,7 +5,7 @@ ghost use Rattle.serde_json.specs.View.{view};
 ghost use Rattle.las_base.specs.Cells.{volume};
 ghost use Rattle.las_base.specs.Jobs.{within_limits};
 ghost use Rattle.grid_box.specs.Drawings.{IsDrawing};
-ghost use Rattle.las_top.specs.Bare.{size_in, is_empty_array, lists_no_cube, forbids_nothing, is_bit, is_one, grid_in, drawing_in, bare_in, bare_of};
+ghost use Rattle.las_top.specs.Bare.{lawful_size_in, is_empty_array, lists_no_cube, forbids_nothing, is_bit, is_one, grid_in, drawing_in, bare_in, bare_of};
 ghost use Rattle.las_top.specs.Entries.{ReadsAs, PutsPipes, PutsYCells, bare};
 
 use crate::ports::read_ports;
@@ -23,7 +23,7 @@ pub(crate) struct Document {
 }
 
 fn read_size(value: &Value) -> Option<Size>
-    ensures { result ≡ size_in (view value.now) }
+    ensures { result ≡ lawful_size_in (view value.now) }
 {
     let size = Size {
         i: whole_member(value, "max_i")?,

@@ -1,7 +1,8 @@
 // What is found, and how it is told.
-ghost use Rattle.std.specs.Prelude.{◌≡◌, ◌≢◌, ◌⊎◌, ◌≤◌, IfOk, string_bytes};
+ghost use Rattle.std.specs.Prelude.{◌≡◌, ◌≢◌, ◌⊎◌, ◌≤◌, ◌++◌, codes, IfOk, string_bytes};
 ghost use Rattle.std.specs.Io.KnownBytes.{Appends};
 ghost use Rattle.las_io.specs.Counts.{Rose};
+ghost use Rattle.las_spec.specs.Texts.{refusal_text};
 ghost use Rattle.las_top.specs.Answers.{IsAnswer};
 ghost use Rattle.las_top.specs.Check.{broken_line};
 ghost use Rattle.las_top.specs.Findings.{answer_by};
@@ -10,16 +11,19 @@ ghost use Rattle.las_top.specs.Runs.{Says};
 use crate::run::Status;
 use grid_box::Broken;
 use las_io::{Sink, WriteRefused, write_all};
+use las_spec::SpecRefused;
 use std::alloc::{AllocError, Global};
 
 /// What is found of the words and the document, in the order in which it is looked for.
-#[derive(Clone, Copy, PartialEq, Eq, Debug)]
+#[derive(Drop)]
 pub(crate) enum Finding {
     Words,
     TooLong,
     Form,
     Breach(Broken),
     Valid,
+    NoSpec(SpecRefused),
+    Text(Vec<u8>),
 }
 
 fn broken_text(alloc: Global, broken: Broken) -> Result<String, AllocError>
@@ -28,6 +32,12 @@ fn broken_text(alloc: Global, broken: Broken) -> Result<String, AllocError>
     let Broken { rule, cell } = broken;
     let (i, j, k) = (cell.i, cell.j, cell.k);
     format!(in alloc; "broken V{rule} {i} {j} {k}\n")
+}
+
+fn refused_text(alloc: Global, refusal: SpecRefused) -> Result<String, AllocError>
+    ensures { IfOk result (λ text. string_bytes text ≡ codes "refused: " ++ (refusal_text refusal ++ codes "\n")) }
+{
+    format!(in alloc; "refused: {refusal}\n")
 }
 
 // Writes a text, and answers the status where all of it stands.
@@ -65,5 +75,10 @@ pub(crate) fn tell<K: Sink, E: Sink>(
             Err(AllocError) => Status::Memory,
         },
         Finding::Valid => say(out, b"pipes valid\n", Status::Good),
+        Finding::NoSpec(refusal) => match refused_text(alloc, refusal) {
+            Ok(text) => say(err, text.as_bytes(), Status::Refused),
+            Err(AllocError) => Status::Memory,
+        },
+        Finding::Text(text) => say(out, &text, Status::Good),
     }
 }

@@ -8,10 +8,13 @@ mod finding;
 mod ports;
 mod rules;
 mod run;
+mod spec;
 
 pub use run::{Status, run_las};
 
 #[cfg(test)]
 mod rule_tests;
+#[cfg(test)]
+mod spec_tests;
 #[cfg(test)]
 mod tests;

@@ -7,51 +7,13 @@ ghost use Rattle.json_shape.specs.Arrays.{each, objects};
 ghost use Rattle.las_base.specs.Axes.{same_axis};
 ghost use Rattle.las_base.specs.Cells.{same_cell};
 ghost use Rattle.las_base.specs.Jobs.{port_fits, distinct_cells};
-ghost use Rattle.las_top.specs.Ports.{axis_letter, way_sign, axis_text, direction_text, port_of, are_ports, ports_in};
+ghost use Rattle.las_top.specs.Ports.{port_of, are_ports, ports_in};
 
 use json_shape::{objects, triple};
-use las_base::{Axis, Cell, Port, Size, Way};
+use las_base::{Cell, Port, Size};
+use las_spec::{axis_text, direction_text};
 use serde_json::Value;
 use std::alloc::{AllocError, Global};
-
-fn axis_letter(letter: u8) -> Option<Axis>
-    ensures { result ≡ axis_letter letter }
-{
-    match letter {
-        b'I' => Some(Axis::I),
-        b'J' => Some(Axis::J),
-        b'K' => Some(Axis::K),
-        _ => None,
-    }
-}
-
-fn way_sign(sign: u8) -> Option<Way>
-    ensures { result ≡ way_sign sign }
-{
-    match sign {
-        b'+' => Some(Way::Plus),
-        b'-' => Some(Way::Minus),
-        _ => None,
-    }
-}
-
-fn axis_text(text: &str) -> Option<Axis>
-    ensures { result ≡ axis_text text.now }
-{
-    match text.as_bytes() {
-        [letter] => axis_letter(*letter),
-        _ => None,
-    }
-}
-
-fn direction_text(text: &str) -> Option<(Way, Axis)>
-    ensures { result ≡ direction_text text.now }
-{
-    match text.as_bytes() {
-        [sign, letter] => Some((way_sign(*sign)?, axis_letter(*letter)?)),
-        _ => None,
-    }
-}
 
 // The port that an object writes.
 fn port_of(value: &Value) -> Option<Port>

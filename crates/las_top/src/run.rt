@@ -7,6 +7,7 @@ ghost use Rattle.las_top.specs.Runs.{command_of, answer_of, AnswersCommand, Answ
 
 use crate::check::check;
 use crate::finding::{Finding, tell};
+use crate::spec::spec;
 use las_io::{ReadRefused, Sink, Source, read_all};
 use std::alloc::{AllocError, Global};
 
@@ -47,6 +48,7 @@ impl Status {
 #[derive(Clone, Copy, PartialEq, Eq, Debug)]
 enum Command {
     Check,
+    Spec,
 }
 
 const MOST_BYTES: usize = 4_194_304;
@@ -56,6 +58,7 @@ fn command_of(words: &[String]) -> Option<Command>
 {
     match words {
         [word] if word.as_str() == "check" => Some(Command::Check),
+        [word] if word.as_str() == "spec" => Some(Command::Spec),
         _ => None,
     }
 }
@@ -65,6 +68,7 @@ fn answer(alloc: Global, command: Command, bytes: &[u8]) -> Result<Finding, Allo
 {
     match command {
         Command::Check => check(alloc, bytes),
+        Command::Spec => spec(alloc, bytes),
     }
 }
 

@@ -1,0 +1,17 @@
+pub mod TableLemmas
+pub mod OnceLemmas
+pub mod WrittenLemmas
+pub mod BriefLemmas
+pub mod SweepLemmas
+pub mod TextLemmas
+pub mod FloatLemmas
+pub mod RefusedLemmas
+pub mod Lists
+pub mod Shapes
+pub mod Members
+pub mod Distinct
+pub mod Lawful
+pub mod LineFeed
+pub mod Printed
+pub mod SpecValues
+pub mod ReadBackLemmas

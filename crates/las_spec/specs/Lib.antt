@@ -1,0 +1,6 @@
+pub mod Written
+pub mod Documents
+pub mod Refusals
+pub mod Briefs
+pub mod Boxes
+pub mod Texts

@@ -1,0 +1,160 @@
+// Specifications of their parts, each refusal alone, and the boxes of a specification.
+use super::*;
+use las_base::{Axis, Cell, Pauli, Size, Way};
+use std::alloc::Global;
+use std::process::Abort;
+use std::test::Fail;
+
+fn size(i: u32, j: u32, k: u32) -> Size {
+    Size { i, j, k }
+}
+
+fn cell(i: u32, j: u32, k: u32) -> Cell {
+    Cell { i, j, k }
+}
+
+fn port(place: Cell, way: Way, z_axis: Axis) -> Port {
+    Port {
+        place,
+        axis: Axis::K,
+        way,
+        z_axis,
+    }
+}
+
+fn up(i: u32, j: u32, k: u32) -> Port {
+    port(cell(i, j, k), Way::Plus, Axis::J)
+}
+
+fn down(i: u32, j: u32, k: u32) -> Port {
+    port(cell(i, j, k), Way::Minus, Axis::J)
+}
+
+// Flows of these lengths, of Z alone.
+fn words(alloc: Global, lengths: &[usize]) -> Result<Vec<FlowWord>, Fail> {
+    let mut words = Vec::new(alloc);
+    for length in lengths {
+        words.push(FlowWord::new(vec![in alloc; Pauli::Z; *length]?))?;
+    }
+    Ok(words)
+}
+
+// What `make_spec` refuses, and what `make_job` refuses of the same parts.
+fn refused(
+    alloc: Global,
+    own: Size,
+    ports: &[Port],
+    lengths: &[usize],
+    forbidden: &[Cell],
+    boxes: &[Size],
+) -> Result<(Option<SpecRefused>, Option<SpecRefused>), Fail> {
+    let flows = words(alloc, lengths)?;
+    let spec = make_spec(alloc, own, ports, &flows, forbidden, boxes).err();
+    let job = make_job(alloc, own, ports, &flows, forbidden).err();
+    Ok((spec, job))
+}
+
+#[test]
+fn each_refusal_alone(rt: HostRuntime) -> Result<(), Fail> {
+    let one = size(1, 1, 1);
+    let wire = [up(0, 0, 0), down(0, 0, 1)];
+    let bent = [up(0, 0, 0), port(cell(0, 0, 1), Way::Minus, Axis::K)];
+    let cases: [(Size, &[Port], &[usize], &[Cell], SpecRefused); 8] = [
+        (size(8, 8, 9), &wire, &[2], &[], SpecRefused::SizeOut),
+        (one, &[], &[0], &[], SpecRefused::PortCount),
+        (one, &bent, &[2], &[], SpecRefused::PortBasis(1)),
+        (
+            one,
+            &[up(0, 0, 0), up(0, 0, 1)],
+            &[2],
+            &[],
+            SpecRefused::PortPlace(1),
+        ),
+        (
+            one,
+            &[up(0, 0, 0), up(0, 0, 0)],
+            &[2],
+            &[],
+            SpecRefused::PortTwice(0, 1),
+        ),
+        (one, &wire, &[], &[], SpecRefused::FlowCount),
+        (one, &wire, &[2, 1], &[], SpecRefused::FlowLength(1)),
+        (
+            one,
+            &wire,
+            &[2],
+            &[cell(0, 0, 0), cell(0, 0, 1)],
+            SpecRefused::ForbiddenPlace(1),
+        ),
+    ];
+    for (n, (own, ports, lengths, forbidden, want)) in cases.iter().enumerate() {
+        let refused = refused(rt.alloc(), *own, ports, lengths, forbidden, &[one])?;
+        assert_eq!(rt; refused, (Some(*want), Some(*want)), "at {n}");
+    }
+    Ok(())
+}
+
+#[test]
+fn each_refusal_of_boxes_alone(rt: HostRuntime) -> Result<(), Fail> {
+    let [one, two] = [size(1, 1, 1), size(1, 1, 2)];
+    let apart = [up(0, 0, 0), up(0, 0, 1)];
+    let meeting = [down(0, 0, 2), down(0, 0, 1)];
+    let cases: [(&[Port], &[Size], Option<SpecRefused>); 6] = [
+        (&apart, &[two, size(32, 8, 2)], None),
+        (&apart, &[], Some(SpecRefused::BoxCount)),
+        (
+            &apart,
+            &[two, size(1, 33, 1)],
+            Some(SpecRefused::BoxSize(1)),
+        ),
+        (&apart, &[two, size(0, 1, 1)], Some(SpecRefused::BoxSize(1))),
+        (&apart, &[two, one], Some(SpecRefused::BoxPort(1, 1))),
+        (&meeting, &[two, one], Some(SpecRefused::BoxPort(1, 1))),
+    ];
+    for (n, (ports, boxes, want)) in cases.iter().enumerate() {
+        let refused = refused(rt.alloc(), two, ports, &[2], &[], boxes)?;
+        assert_eq!(rt; refused, (*want, None), "at {n}");
+    }
+    Ok(())
+}
+
+#[test]
+fn boxes_of_a_cnot(rt: HostRuntime) -> Result<(), Fail> {
+    let alloc = rt.alloc();
+    let ports = [up(1, 0, 0), up(0, 1, 0), down(1, 0, 3), down(0, 1, 3)];
+    let flows = words(alloc, &[4, 4])?;
+    let forbidden = [cell(1, 1, 2), cell(0, 0, 0), cell(1, 1, 2)];
+    let boxes = [size(2, 2, 3), size(2, 2, 1), size(2, 2, 3), size(2, 2, 2)];
+    let spec = make_spec(alloc, size(2, 2, 3), &ports, &flows, &forbidden, &boxes)
+        .ok()
+        .expect(&rt, "the parts are in order");
+    assert_eq!(rt; spec.box_count(), 3);
+    assert_eq!(rt; spec.box_at(2), size(2, 2, 2));
+    assert_eq!(rt; spec.forbidden(), [cell(1, 1, 2), cell(0, 0, 0)].as_slice());
+    assert_eq!(rt; sweep_order(alloc, &spec)?.as_slice(), [1, 2, 0].as_slice());
+
+    let job = job(alloc, &spec, 1)?;
+    let carried = [up(1, 0, 0), up(0, 1, 0), down(1, 0, 1), down(0, 1, 1)];
+    assert_eq!(rt; job.size(), size(2, 2, 1));
+    assert_eq!(rt; job.ports(), carried.as_slice());
+    assert_eq!(rt; job.flows().len(), 2);
+    assert_eq!(rt; job.flows()[1].letters(), [Pauli::Z; 4].as_slice());
+    assert_eq!(rt; job.forbidden(), [cell(0, 0, 0)].as_slice());
+    assert_eq!(rt; (spec.rules(), job.rules()), (Rules::One, Rules::One));
+    Ok(())
+}
+
+#[test]
+fn boxes_of_one_volume_stay_in_order(rt: HostRuntime) -> Result<(), Fail> {
+    let alloc = rt.alloc();
+    let flows = words(alloc, &[1])?;
+    let boxes = [size(2, 1, 2), size(2, 2, 1), size(1, 1, 1), size(1, 2, 2)];
+    let spec = make_spec(alloc, size(1, 1, 1), &[up(0, 0, 0)], &flows, &[], &boxes)
+        .ok()
+        .expect(&rt, "the parts are in order");
+    assert_eq!(rt;
+        sweep_order(alloc, &spec)?.as_slice(),
+        [2, 0, 1, 3].as_slice()
+    );
+    Ok(())
+}

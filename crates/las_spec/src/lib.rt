@@ -1,0 +1,33 @@
+//! Specifications: a job (a size, ports, flows, forbidden cells) with the boxes in which it is asked. They
+//! are read from a JSON document, refused by the first refusal of one ordered table, printed in a normal
+//! form, and cut to the job of a box. Callers see a `Spec` as a record of plain lists, a `Job` likewise.
+#![tactic(auto)]
+
+mod boxes;
+mod document;
+mod draft;
+mod flow_word;
+mod judge;
+mod laws;
+mod letters;
+mod make;
+mod read;
+mod refusal;
+mod spec;
+mod text;
+
+pub use boxes::{job, sweep_order};
+pub use flow_word::FlowWord;
+pub use las_base::Port;
+pub use laws::text_is_read_back;
+pub use letters::{axis_text, direction_text};
+pub use make::{make_job, make_spec};
+pub use read::read_spec;
+pub use refusal::{Field, SpecRefused, refusal_text};
+pub use spec::{Job, Rules, Spec};
+pub use text::spec_text;
+
+#[cfg(test)]
+mod box_tests;
+#[cfg(test)]
+mod read_tests;
