@@ -6,3 +6,4 @@ pub mod TellLemmas
 pub mod SlotLemmas
 pub mod LegLemmas
 pub mod StayLemmas
+pub mod FindLemmas

@@ -1,5 +1,5 @@
 -- Slots and bits, and what a change of one of them does to the drawing.
-use Rattle.std.proofs.Common.{◌≡◌, ◌≢◌, ℕ, zero, suc, ◌*◌, ◌/◌, ◌%◌, ◌<◌, Bool, true, false, cond, ◌&&◌, ◌||◌, List, [], ◌∷◌, length, get_or, set, replicate, Some, None, refl, sym, ap, ◌∙◌, subst, arith, length-set}
+use Rattle.std.proofs.Common.{◌≡◌, ◌≢◌, ℕ, zero, suc, ◌*◌, ◌/◌, ◌%◌, ◌<◌, Bool, true, false, cond, not, ◌&&◌, ◌||◌, List, [], ◌∷◌, length, get_or, set, replicate, Some, None, refl, sym, ap, ◌∙◌, subst, arith, length-set}
 use Rattle.std.specs.List.{filter}
 use Rattle.std.proofs.lemmas.Bool.{and_parts, and_from, both_ways}
 use Rattle.std.proofs.lemmas.List.{get_or-set_same, get_or-set_other, length-replicate}
@@ -106,25 +106,29 @@ bit_at-set s bits cell bit long held c h = by_test (same_cell c cell) refl
         both_ways (same_cell c cell) t (rw same (same_cell-refl cell)) in
         get_or-set_other bits (index s cell) (index s c) bit false other
 
--- whether a cell is a Y cell, after its bit was set
-pub is_y-set : (s : Size) (kinds : Axis → Cell → Slot) (bits : List Bool) (cell : Cell) → length bits ≡ volume s → holds s cell ≡ true → (c : Cell)
-    → is_y (drawing_by s kinds (bit_at s (set bits (index s cell) true))) c ≡ (same_cell c cell || is_y (drawing_by s kinds (bit_at s bits)) c)
-is_y-set s kinds bits cell long held c =
-    is_y-drawing_by s kinds (bit_at s (set bits (index s cell) true)) c
+-- whether a cell is a Y cell, after a bit was changed
+pub is_y-set : (s : Size) (kinds : Axis → Cell → Slot) (bits : List Bool) (cell : Cell) (bit : Bool) → length bits ≡ volume s → holds s cell ≡ true → (c : Cell)
+    → is_y (drawing_by s kinds (bit_at s (set bits (index s cell) bit))) c ≡ cond (same_cell c cell) bit (is_y (drawing_by s kinds (bit_at s bits)) c)
+is_y-set s kinds bits cell bit long held c =
+    is_y-drawing_by s kinds (bit_at s (set bits (index s cell) bit)) c
     ∙ by_test (holds s c) refl
-    ∙ ap (λ b. same_cell c cell || b) (sym (is_y-drawing_by s kinds (bit_at s bits) c))
+    ∙ ap (cond (same_cell c cell) bit) (sym (is_y-drawing_by s kinds (bit_at s bits) c))
   where
-    or_if : (t b : Bool) → cond t true b ≡ (t || b)
-    or_if true b = refl
-    or_if false b = refl
-
-    out : (t : Bool) → same_cell c cell ≡ t → holds s c ≡ false → false ≡ (t || false)
+    out : (t : Bool) → same_cell c cell ≡ t → holds s c ≡ false → false ≡ cond t bit false
     out true t h = absurd (both_ways (holds s c) h (subst (λ x. holds s x ≡ true) (sym (same_cell-is c cell t)) held))
     out false t h = refl
 
-    by_test : (b : Bool) → holds s c ≡ b → (b && bit_at s (set bits (index s cell) true) c) ≡ (same_cell c cell || (b && bit_at s bits c))
-    by_test true h = bit_at-set s bits cell true long held c h ∙ or_if (same_cell c cell) (bit_at s bits c)
+    by_test : (b : Bool) → holds s c ≡ b → (b && bit_at s (set bits (index s cell) bit) c) ≡ cond (same_cell c cell) bit (b && bit_at s bits c)
+    by_test true h = bit_at-set s bits cell bit long held c h
     by_test false h = out (same_cell c cell) refl h
+
+pub set_or : (t b : Bool) → cond t true b ≡ (t || b)
+set_or true b = refl
+set_or false b = refl
+
+pub clear_and : (t b : Bool) → cond t false b ≡ (not t && b)
+clear_and true b = refl
+clear_and false b = refl
 
 -- ---- what is kept
 

@@ -5,5 +5,6 @@ pub mod Legs
 pub mod Scans
 pub mod PipeRules
 pub mod Breaches
+pub mod Tests
 pub mod Sheets
 pub mod Examples

@@ -1,5 +1,5 @@
 -- Drawings by their look-ups: which kinds the pipe at each place has, and which cells are Y cells.
-use Rattle.std.specs.Prelude.{◌≡◌, Bool, ◌||◌, List, Option, Some, None, if◌then◌else◌, true}
+use Rattle.std.specs.Prelude.{◌≡◌, ◌&&◌, not, Bool, ◌||◌, List, Option, Some, None, if◌then◌else◌, true}
 use Rattle.std.specs.List.{filter, filter_map, flat_map}
 use Rattle.std.specs.Option.{option_map}
 use Rattle.las_base.specs.declared.Axis.{Axis}
@@ -33,9 +33,18 @@ abbrev pub PutsPipe : Drawing → Drawing → Pipe → Type 0
 PutsPipe old new p =
     (a : Axis) (c : Cell) → pipe_at new a c ≡ (if is_pipe_at a c p then Some p else pipe_at old a c)
 
+-- the new drawing has no pipe along the axis with this low cell, and every other pipe of the old one
+abbrev pub DropsPipe : Drawing → Drawing → Axis → Cell → Type 0
+DropsPipe old new axis cell =
+    (a : Axis) (c : Cell) → pipe_at new a c ≡ (if same_axis axis a && same_cell cell c then None else pipe_at old a c)
+
 -- the new drawing has a Y cube at this cell, and at every other cell where the old one has one, and at no other
 abbrev pub PutsY : Drawing → Drawing → Cell → Type 0
 PutsY old new y = (c : Cell) → is_y new c ≡ (same_cell c y || is_y old c)
+
+-- the new drawing has no Y cube at this cell, and at every other cell where the old one has one
+abbrev pub DropsY : Drawing → Drawing → Cell → Type 0
+DropsY old new y = (c : Cell) → is_y new c ≡ (not (same_cell c y) && is_y old c)
 
 -- a drawing's look-ups tell the drawing
 abbrev pub LookUpsTell : Type 0

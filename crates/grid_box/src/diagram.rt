@@ -5,7 +5,7 @@ ghost use Rattle.las_base.specs.Cells.{holds, volume, IsSmall, IsNear};
 ghost use Rattle.las_base.specs.Jobs.{within_limits};
 ghost use Rattle.grid_box.specs.Drawings.{IsDrawing, drawing_of, kinds_at, is_y};
 ghost use Rattle.grid_box.specs.Legs.{legs, leg_of, pipe_end_at};
-ghost use Rattle.grid_box.specs.LookUps.{PutsPipe, PutsY};
+ghost use Rattle.grid_box.specs.LookUps.{PutsPipe, DropsPipe, PutsY, DropsY};
 ghost use Rattle.grid_box.specs.Slots.{slot_number};
 
 use crate::Leg;
@@ -99,6 +99,18 @@ impl Diagram {
         self.slots[number] = Some((low, high));
     }
 
+    /// Takes the pipe away, where there is one.
+    pub fn drop_pipe(&mut self, axis: Axis, cell: Cell)
+        requires { IsTrue (holds self.old.size cell) }
+        ensures pipes { DropsPipe self.old self.new axis cell }
+        ensures y_cells { self.new.y_cells ≡ self.old.y_cells }
+        ensures size { self.new.size ≡ self.old.size }
+        ensures drawn { IsDrawing self.new }
+    {
+        let number = slot_number(self.size, axis, cell);
+        self.slots[number] = None;
+    }
+
     /// Puts a Y cube.
     pub fn put_y(&mut self, cell: Cell)
         requires { IsTrue (holds self.old.size cell) }
@@ -109,6 +121,18 @@ impl Diagram {
     {
         let number = self.size.index(cell);
         self.y_bits[number] = true;
+    }
+
+    /// Takes the Y cube away, where there is one.
+    pub fn drop_y(&mut self, cell: Cell)
+        requires { IsTrue (holds self.old.size cell) }
+        ensures y_cells { DropsY self.old self.new cell }
+        ensures pipes { self.new.pipes ≡ self.old.pipes }
+        ensures size { self.new.size ≡ self.old.size }
+        ensures drawn { IsDrawing self.new }
+    {
+        let number = self.size.index(cell);
+        self.y_bits[number] = false;
     }
 
     /// The legs of a cell in the order of positions: on I, J and K, each time the pipe from below first.

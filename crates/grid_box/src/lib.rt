@@ -5,9 +5,14 @@
 //! is kept.
 #![tactic(auto)]
 
+ghost use Rattle.std.specs.Prelude.{◌≡◌};
+ghost use Rattle.grid_box.specs.Legs.{kind_on, end_of_way};
+ghost use Rattle.grid_box.specs.PipeRules.{is_port_leg};
+
 mod diagram;
 mod examples;
 mod laws;
+mod scan;
 
 pub use diagram::Diagram;
 pub use examples::{
@@ -16,8 +21,9 @@ pub use examples::{
     three_axes_meet_at_0_0_1, wire_has_both_flows, wire_is_valid, wire_needs_a_sheet,
     y_cube_ends_a_leg,
 };
-use las_base::{Axis, Cell, End, Kind};
+use las_base::{Axis, Cell, End, Kind, Port, Way};
 pub use laws::{look_ups_tell, no_breach_is_valid, pipe_ends_by_scan, stays_by_axes};
+pub use scan::first_failing;
 
 /// The end of a pipe that stands at a cell.
 #[derive(Clone, Copy, PartialEq, Eq, Debug)]
@@ -36,6 +42,36 @@ impl Default for Leg {
             which: End::Low,
             kind_next: Kind::X,
         }
+    }
+}
+
+impl Leg {
+    /// Whether it is the end of the port's pipe at the port's place.
+    pub fn is_end_at(self, port: Port) -> bool
+        ensures { result ≡ is_port_leg port self }
+    {
+        self.axis == port.axis && self.which == end_of(port.way)
+    }
+}
+
+// Which end of a pipe stands at a cell from which the pipe goes this way.
+fn end_of(way: Way) -> End
+    ensures { result ≡ end_of_way way }
+{
+    match way {
+        Way::Plus => End::Low,
+        Way::Minus => End::High,
+    }
+}
+
+/// The kind of a leg's faces normal to an axis. It means nothing on the leg's own axis.
+pub fn face(leg: Leg, axis: Axis) -> Kind
+    ensures { result ≡ kind_on leg axis }
+{
+    if axis == leg.axis.next() {
+        leg.kind_next
+    } else {
+        leg.kind_next.other()
     }
 }
 

@@ -1,5 +1,5 @@
 -- Specifications as contracts see them, and what a document gives.
-use Rattle.std.specs.Prelude.{◌≡◌, ℕ, ◌<◌, ◌≤◌, Bool, List, [], ◌∷◌, ◌++◌, map, length, Option, Some, None, Result, Ok, Err, IsTrue, if◌then◌else◌, not, nat_eq, ◌&&◌, true, filter}
+use Rattle.std.specs.Prelude.{◌≡◌, codes, is_none, ℕ, ◌<◌, ◌≤◌, Bool, List, [], ◌∷◌, ◌++◌, map, length, Option, Some, None, Result, Ok, Err, IsTrue, if◌then◌else◌, not, nat_eq, ◌&&◌, true, filter}
 use Rattle.std.specs.List.{list_all, list_any, filter_map}
 use Rattle.serde_json.specs.Data.{Data}
 use Rattle.json_shape.specs.Arrays.{is_object}
@@ -17,7 +17,9 @@ use Rattle.las_spec.specs.declared.refusal.SpecRefused.{SpecRefused}
 use Rattle.las_spec.specs.declared.refusal.SpecRefused.TheVariants.{NotJson, NotObject, Missing, Shape}
 use Rattle.las_spec.specs.declared.draft.WrittenPort.{WrittenPort}
 use Rattle.las_spec.specs.Written.{Written}
-use Rattle.las_spec.specs.Documents.{missing_in, misshapen_in, written_in}
+use Rattle.std.specs.Option.{option_map_or, option_and_then}
+use Rattle.serde_json.specs.Find.{get}
+use Rattle.las_spec.specs.Documents.{size_in, ports_in, words_in, forbidden_in, written_of, missing_in, misshapen_in, written_in}
 use Rattle.las_spec.specs.Refusals.{carried, job_refusal, refusal}
 
 -- a specification: a job, and the boxes in which it is asked
@@ -112,3 +114,19 @@ pub record IsBrief (b : Brief) : Type 0 where
   pub box_sizes : IsTrue (list_all within_limits b.boxes)
   pub distinct_boxes : IsTrue (distinct_sizes b.boxes)
   pub box_jobs : (box : Size) → list_any (same_size box) b.boxes ≡ true → IsTask (job_of b box)
+
+-- the options are an object, where they are there
+abbrev pub has_options : Data → Bool
+has_options d = option_map_or is_object (get (codes "optional") d) true
+
+-- what a value writes of a job, which has no boxes
+unfoldable pub job_written_in : Data → Option Written
+job_written_in d = option_and_then (λ size. written_of size (ports_in d) (words_in d) (forbidden_in d) (Some [])) (size_in d)
+
+-- the job that is written, where it is not refused
+abbrev pub job_unless_refused : Written → Option Task
+job_unless_refused w = if is_none (job_refusal w) then Some (task_written w) else None
+
+-- the job that a value gives, where every member of a job is there in its shape, and the job is not refused
+unfoldable pub job_in : Data → Option Task
+job_in d = if has_options d then option_and_then job_unless_refused (job_written_in d) else None

@@ -10,6 +10,7 @@ ghost use Rattle.json_shape.specs.Numbers.{triple};
 ghost use Rattle.las_spec.specs.declared.refusal.SpecRefused.TheVariants.{Memory, Shape};
 ghost use Rattle.las_spec.specs.Written.{written_as};
 ghost use Rattle.las_spec.specs.Documents.{word_in, cell_of, size_of, port_in, ports_in, words_in, triples, cubes_in, forbidden_in, boxes_in, field_name, missing_in, misshapen_in, written_in};
+ghost use Rattle.las_spec.specs.Briefs.{has_options, job_written_in};
 
 use crate::draft::{Draft, WrittenPort};
 use crate::letters::{axis_text, direction_text, read_word};
@@ -172,9 +173,9 @@ fn read_boxes(alloc: Global, own: Size, value: &Value) -> Result<Option<Vec<Size
     }
 }
 
-// Whether the options are an object, where they are there.
-fn has_options(value: &Value) -> bool
-    ensures { result ≡ option_map_or is_object (get (codes "optional") (view value.now)) true }
+/// Whether the options are an object, where they are there.
+pub(crate) fn has_options(value: &Value) -> bool
+    ensures { result ≡ has_options (view value.now) }
 {
     match value.get(Field::Optional.name()) {
         Some(options) => options.is_object(),
@@ -236,4 +237,36 @@ pub(crate) fn read_written(alloc: Global, value: &Value) -> Result<Draft, SpecRe
         forbidden,
         boxes,
     })
+}
+
+/// What the value writes of a job, where each of its members is there in its shape. There are no boxes.
+#[tactic(auto, unfolding(crate::specs::Briefs::job_written_in))]
+pub(crate) fn read_job_written(alloc: Global, value: &Value) -> Result<Option<Draft>, AllocError>
+    ensures { IfOk result (λ o. option_map written_as o ≡ job_written_in (view value.now)) }
+{
+    let Some(i) = whole_member(value, Field::MaxI.name()) else {
+        return Ok(None);
+    };
+    let Some(j) = whole_member(value, Field::MaxJ.name()) else {
+        return Ok(None);
+    };
+    let Some(k) = whole_member(value, Field::MaxK.name()) else {
+        return Ok(None);
+    };
+    let Some(ports) = read_ports(alloc, value)? else {
+        return Ok(None);
+    };
+    let Some(words) = read_words(alloc, value)? else {
+        return Ok(None);
+    };
+    let Some(forbidden) = read_forbidden(alloc, value)? else {
+        return Ok(None);
+    };
+    Ok(Some(Draft {
+        size: Size { i, j, k },
+        ports,
+        words,
+        forbidden,
+        boxes: Vec::new(alloc),
+    }))
 }

@@ -22,7 +22,7 @@ pub use las_base::Port;
 pub use laws::text_is_read_back;
 pub use letters::{axis_text, direction_text};
 pub use make::{make_job, make_spec};
-pub use read::read_spec;
+pub use read::{read_job, read_spec};
 pub use refusal::{Field, SpecRefused, refusal_text};
 pub use spec::{Job, Rules, Spec};
 pub use text::spec_text;

@@ -1,5 +1,5 @@
-pub mod PortLemmas
-pub mod FindLemmas
+pub mod BreachLemmas
+pub mod CountLemmas
+pub mod AllLemmas
 pub mod MarkLemmas
 pub mod ShownLemmas
-pub mod RuleLemmas

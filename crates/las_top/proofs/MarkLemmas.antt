@@ -14,8 +14,8 @@ use Rattle.las_base.proofs.Same.{same_cell-is, same_cell-refl, same_cell-sym, sa
 use Rattle.las_base.proofs.Indices.{cell_at, cell_at-index}
 use Rattle.grid_box.specs.Drawings.{Pipe, Drawing, pipe_at, is_y}
 use Rattle.grid_box.specs.LookUps.{PutsPipe, PutsY}
-use Rattle.las_top.specs.Bare.{is_one}
-use Rattle.las_top.specs.Entries.{marks, PutsPipes, PutsYCells}
+use Rattle.las_top.specs.Drawn.{is_one, is_bit, kind_by}
+use Rattle.las_top.specs.Entries.{marks, marks_bit, pipe_marked, PutsPipes, PutsYCells, all_cells_count}
 
 -- whether the entry at a place is 1
 abbrev one_at : List Entry → ℕ → Bool
@@ -76,21 +76,35 @@ marks_same s es n cell held at none c = marks_more s es n cell held at c ∙ by_
 one_at_entry : (es : List Entry) (n : ℕ) (e : Entry) → n < length es → one_at es n ≡ is_one (get_or es n e)
 one_at_entry es n e h = ap (λ o. option_map_or is_one o false) (slice_get-get_or es n e h)
 
-abbrev x_pipe : Axis → Cell → Pipe
-x_pipe a c = record { axis = a; cell = c; low = Kind.X; high = Kind.X }
+-- the mark of the cell with an index is its entry
+pub mark_is : (s : Size) (es : List Entry) (n : ℕ) (e : Entry) (cell : Cell) → n < length es → holds s cell ≡ true → index s cell ≡ n → marks s es cell ≡ is_one (get_or es n e)
+mark_is s es n e cell low held at = rw (held, at) (one_at_entry es n e low)
 
-pub pipe_put : (s : Size) (axis : Axis) (es : List Entry) (n : ℕ) (e : Entry) (cell : Cell) (old mid new : Drawing) → n < length es → is_one (get_or es n e) ≡ true → holds s cell ≡ true → index s cell ≡ n → PutsPipes s axis (take n es) old mid → PutsPipe mid new (x_pipe axis cell) → PutsPipes s axis (take (n + 1) es) old new
-pipe_put s axis es n e cell old mid new low one held at before puts a c =
-    rw (add-one, marks_more s es n cell held at c, one_at_entry es n e low, one) (puts a c ∙ rw (before a c) (by_tests (same_axis axis a) refl (same_cell cell c) refl))
+pub bit_is : (s : Size) (es : List Entry) (n : ℕ) (e : Entry) (cell : Cell) → n < length es → holds s cell ≡ true → index s cell ≡ n → marks_bit s es cell ≡ is_bit (get_or es n e)
+bit_is s es n e cell low held at = rw (held, at) (ap (λ o. option_map_or is_bit o false) (slice_get-get_or es n e low))
+
+pub pipe_put : (s : Size) (axis : Axis) (es low high : List Entry) (n : ℕ) (e : Entry) (cell : Cell) (low_kind high_kind : Kind) (old mid new : Drawing) → n < length es → is_one (get_or es n e) ≡ true → holds s cell ≡ true → index s cell ≡ n → low_kind ≡ kind_by (marks s low cell) → high_kind ≡ kind_by (marks s high cell)
+    → PutsPipes s axis (take n es) low high old mid → PutsPipe mid new (record { axis = axis; cell = cell; low = low_kind; high = high_kind }) → PutsPipes s axis (take (n + 1) es) low high old new
+pipe_put s axis es low high n e cell low_kind high_kind old mid new below one held at low_is high_is before puts a c =
+    rw (add-one, marks_more s es n cell held at c, one_at_entry es n e below, one) (puts a c ∙ rw (before a c) (by_tests (same_axis axis a) refl (same_cell cell c) refl))
   where
-    by_tests : (t : Bool) → same_axis axis a ≡ t → (u : Bool) → same_cell cell c ≡ u → cond (t && u) (Some (x_pipe axis cell)) (cond (t && marks s (take n es) c) (Some (x_pipe a c)) (pipe_at old a c)) ≡ cond (t && cond u true (marks s (take n es) c)) (Some (x_pipe a c)) (pipe_at old a c)
+    new_pipe : Pipe
+    new_pipe = record { axis = axis; cell = cell; low = low_kind; high = high_kind }
+
+    with_kinds : Kind → Kind → Pipe
+    with_kinds k l = record { axis = axis; cell = cell; low = k; high = l }
+
+    here : new_pipe ≡ pipe_marked s axis low high cell
+    here = ap (λ k. with_kinds k high_kind) low_is ∙ ap (with_kinds (kind_by (marks s low cell))) high_is
+
+    by_tests : (t : Bool) → same_axis axis a ≡ t → (u : Bool) → same_cell cell c ≡ u → cond (t && u) (Some new_pipe) (cond (t && marks s (take n es) c) (Some (pipe_marked s a low high c)) (pipe_at old a c)) ≡ cond (t && cond u true (marks s (take n es) c)) (Some (pipe_marked s a low high c)) (pipe_at old a c)
     by_tests false t u w = refl
-    by_tests true t true w = ap (λ b. Some (x_pipe b cell)) (same_axis-is axis a t) ∙ ap (λ d. Some (x_pipe a d)) (same_cell-is cell c w)
+    by_tests true t true w = ap Some here ∙ ap (λ b. Some (pipe_marked s b low high cell)) (same_axis-is axis a t) ∙ ap (λ d. Some (pipe_marked s a low high d)) (same_cell-is cell c w)
     by_tests true t false w = refl
 
-pub no_pipe_put : (s : Size) (axis : Axis) (es : List Entry) (n : ℕ) (e : Entry) (cell : Cell) (old mid : Drawing) → n < length es → is_one (get_or es n e) ≡ false → holds s cell ≡ true → index s cell ≡ n → PutsPipes s axis (take n es) old mid → PutsPipes s axis (take (n + 1) es) old mid
-no_pipe_put s axis es n e cell old mid low none held at before a c =
-    rw (add-one, marks_same s es n cell held at (one_at_entry es n e low ∙ none) c) (before a c)
+pub no_pipe_put : (s : Size) (axis : Axis) (es low high : List Entry) (n : ℕ) (e : Entry) (cell : Cell) (old mid : Drawing) → n < length es → is_one (get_or es n e) ≡ false → holds s cell ≡ true → index s cell ≡ n → PutsPipes s axis (take n es) low high old mid → PutsPipes s axis (take (n + 1) es) low high old mid
+no_pipe_put s axis es low high n e cell old mid below none held at before a c =
+    rw (add-one, marks_same s es n cell held at (one_at_entry es n e below ∙ none) c) (before a c)
 
 pub y_put : (s : Size) (es : List Entry) (n : ℕ) (e : Entry) (cell : Cell) (old mid new : Drawing) → n < length es → is_one (get_or es n e) ≡ true → holds s cell ≡ true → index s cell ≡ n → PutsYCells s (take n es) old mid → PutsY mid new cell → PutsYCells s (take (n + 1) es) old new
 y_put s es n e cell old mid new low one held at before puts c =

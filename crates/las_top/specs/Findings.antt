@@ -12,6 +12,6 @@ answer_by Words = refused (codes "words")
 answer_by TooLong = refused (codes "too long")
 answer_by Form = refused (codes "form")
 answer_by (Breach broken) = no_with (broken_line broken)
-answer_by Valid = yes_with (codes "pipes valid\n")
+answer_by Valid = yes_with (codes "valid\n")
 answer_by (NoSpec refusal) = refused (refusal_text refusal)
 answer_by (Text text) = yes_with text.items

@@ -1,5 +1,4 @@
-pub mod Ports
-pub mod Bare
+pub mod Drawn
 pub mod Entries
 pub mod Answers
 pub mod Check

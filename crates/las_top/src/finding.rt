@@ -74,7 +74,7 @@ pub(crate) fn tell<K: Sink, E: Sink>(
             Ok(text) => say(err, text.as_bytes(), Status::No),
             Err(AllocError) => Status::Memory,
         },
-        Finding::Valid => say(out, b"pipes valid\n", Status::Good),
+        Finding::Valid => say(out, b"valid\n", Status::Good),
         Finding::NoSpec(refusal) => match refused_text(alloc, refusal) {
             Ok(text) => say(err, text.as_bytes(), Status::Refused),
             Err(AllocError) => Status::Memory,

@@ -2,19 +2,21 @@
 //! and answers a status. Its contract says what each answer means, over any source and any sinks.
 #![tactic(auto)]
 
-mod bare;
 mod check;
+mod drawn;
 mod finding;
-mod ports;
-mod rules;
 mod run;
 mod spec;
 
 pub use run::{Status, run_las};
 
 #[cfg(test)]
+mod form_tests;
+#[cfg(test)]
 mod rule_tests;
 #[cfg(test)]
 mod spec_tests;
+#[cfg(test)]
+mod test_documents;
 #[cfg(test)]
 mod tests;

@@ -1,97 +1,6 @@
-use crate::{Status, run_las};
-use las_io::{MemSink, MemSource};
+use crate::test_documents::*;
 use std::alloc::Global;
-use std::process::Abort;
 use std::test::Fail;
-
-type Place = (u32, u32, u32);
-
-// A port as a document writes it: its place, its direction and its z axis.
-type PortText = (Place, &'static str, &'static str);
-
-// The text of a grid that has 1 at these cells alone.
-fn grid(alloc: Global, size: Place, ones: &[Place]) -> Result<String, Fail> {
-    let mut text = String::from_str(alloc, "[")?;
-    for i in 0..size.0 {
-        text.push_str(if i == 0 { "[" } else { ",[" })?;
-        for j in 0..size.1 {
-            text.push_str(if j == 0 { "[" } else { ",[" })?;
-            for k in 0..size.2 {
-                if k > 0 {
-                    text.push(',')?;
-                }
-                text.push(if ones.contains(&(i, j, k)) { '1' } else { '0' })?;
-            }
-            text.push(']')?;
-        }
-        text.push(']')?;
-    }
-    text.push(']')?;
-    Ok(text)
-}
-
-fn port_list(alloc: Global, ports: &[PortText]) -> Result<String, Fail> {
-    let mut text = String::from_str(alloc, "[")?;
-    for (place, direction, z_axis) in ports {
-        if text.len() > 1 {
-            text.push(',')?;
-        }
-        let (i, j, k) = *place;
-        let port = format!(in alloc;
-            "{{\"location\":[{i},{j},{k}],\"direction\":\"{direction}\",\"z_basis_direction\":\"{z_axis}\"}}"
-        )?;
-        text.push_str(&port)?;
-    }
-    text.push(']')?;
-    Ok(text)
-}
-
-// A document of a size with these ports, and with 1 at these cells of NodeY, ExistI, ExistJ and ExistK.
-fn document(
-    alloc: Global,
-    size: Place,
-    ports: &[PortText],
-    ones: [&[Place]; 4],
-) -> Result<String, Fail> {
-    let (max_i, max_j, max_k) = size;
-    let ports = port_list(alloc, ports)?;
-    let y_cells = grid(alloc, size, ones[0])?;
-    let along_i = grid(alloc, size, ones[1])?;
-    let along_j = grid(alloc, size, ones[2])?;
-    let along_k = grid(alloc, size, ones[3])?;
-    Ok(format!(in alloc;
-        "{{\"max_i\":{max_i},\"max_j\":{max_j},\"max_k\":{max_k},\"ports\":{ports},\"NodeY\":{y_cells},\"ExistI\":{along_i},\"ExistJ\":{along_j},\"ExistK\":{along_k}}}"
-    )?)
-}
-
-// The line that `check` prints for a document, on either stream, and its status.
-fn check_says(rt: &(impl Abort + AllocGlobal), text: &str, want: &str) -> Result<(), Fail> {
-    let alloc = rt.alloc();
-    let mut words = Vec::new(alloc);
-    words.push(String::from_str(alloc, "check")?)?;
-    let mut src = MemSource::new(text.as_bytes().to_vec(alloc)?, 100_000, Vec::new(alloc));
-    let mut out = MemSink::new(alloc, 100, Vec::new(alloc));
-    let mut err = MemSink::new(alloc, 100, Vec::new(alloc));
-    let status = run_las(alloc, &words, &mut src, &mut out, &mut err);
-    let line = format!(in alloc; "{want}\n")?;
-    let (wanted, out_line, err_line) = match want {
-        "pipes valid" => (Status::Good, line.as_str(), ""),
-        "refused: form" => (Status::Refused, "", line.as_str()),
-        _ => (Status::No, "", line.as_str()),
-    };
-    assert_eq!(rt; status, wanted, "{text}");
-    assert_eq!(rt; out.bytes(), out_line.as_bytes(), "{text}");
-    assert_eq!(rt; err.bytes(), err_line.as_bytes(), "{text}");
-    Ok(())
-}
-
-const O: Place = (0, 0, 0);
-
-const UNIT: Place = (1, 1, 1);
-
-const TOP: PortText = ((0, 0, 1), "-K", "J");
-
-const BOTTOM: PortText = (O, "+K", "J");
 
 #[test]
 fn each_rule_is_tested(rt: HostRuntime) -> Result<(), Fail> {
@@ -99,9 +8,9 @@ fn each_rule_is_tested(rt: HostRuntime) -> Result<(), Fail> {
     let far: &[PortText] = &[((1, 0, 2), "-K", "J")];
     let cases: [(Place, &[PortText], [&[Place]; 4], &str); 12] = [
         // Two ports share the one pipe.
-        (UNIT, &[BOTTOM, TOP], [&[], &[], &[], &[O]], "pipes valid"),
+        (UNIT, &[BOTTOM, TOP], [&[], &[], &[], &[O]], "valid"),
         // A Y cube ends the port's pipe, and without it the pipe ends in nothing.
-        (UNIT, &[TOP], [&[O], &[], &[], &[O]], "pipes valid"),
+        (UNIT, &[TOP], [&[O], &[], &[], &[O]], "valid"),
         (UNIT, &[TOP], [&[], &[], &[], &[O]], "broken V5 0 0 0"),
         // A pipe along I leaves through the far face, where there is no port, and where there is one.
         (UNIT, &[TOP], [&[], &[O], &[], &[O]], "broken V1 0 0 0"),
@@ -109,7 +18,7 @@ fn each_rule_is_tested(rt: HostRuntime) -> Result<(), Fail> {
             UNIT,
             &[TOP, ((1, 0, 0), "-I", "J")],
             [&[], &[O], &[], &[O]],
-            "pipes valid",
+            "broken V7 0 0 0",
         ),
         // A port has no pipe, a Y cube stands at its place, or it has a second leg.
         (UNIT, &[TOP], [&[], &[], &[], &[]], "broken V2 0 0 1"),
@@ -159,7 +68,11 @@ fn each_rule_is_tested(rt: HostRuntime) -> Result<(), Fail> {
         ),
     ];
     for (size, ports, ones, want) in cases {
-        check_says(&rt, &document(rt.alloc(), size, ports, ones)?, want)?;
+        check_says(
+            &rt,
+            &document(rt.alloc(), size, ports, ones, PLAIN, "")?,
+            want,
+        )?;
     }
     Ok(())
 }
@@ -167,22 +80,22 @@ fn each_rule_is_tested(rt: HostRuntime) -> Result<(), Fail> {
 #[test]
 fn a_port_may_stand_beyond_a_far_face(rt: HostRuntime) -> Result<(), Fail> {
     for (place, minus, plus, z_axis, axis) in [
-        ((1, 0, 0), "-I", "+I", "J", 1),
-        ((0, 1, 0), "-J", "+J", "K", 2),
-        ((0, 0, 1), "-K", "+K", "I", 3),
+        ((1, 0, 0), "-I", "+I", "K", 1),
+        ((0, 1, 0), "-J", "+J", "I", 2),
+        ((0, 0, 1), "-K", "+K", "J", 3),
     ] {
         let mut ones: [&[Place]; 4] = [&[], &[], &[], &[]];
         ones[axis] = &[O];
         let ports = [(O, plus, z_axis), (place, minus, z_axis)];
         check_says(
             &rt,
-            &document(rt.alloc(), UNIT, &ports, ones)?,
-            "pipes valid",
+            &document(rt.alloc(), UNIT, &ports, ones, PLAIN, "")?,
+            "valid",
         )?;
         let ports = [(O, plus, z_axis), (place, plus, z_axis)];
         check_says(
             &rt,
-            &document(rt.alloc(), UNIT, &ports, ones)?,
+            &document(rt.alloc(), UNIT, &ports, ones, PLAIN, "")?,
             "refused: form",
         )?;
     }
@@ -190,118 +103,224 @@ fn a_port_may_stand_beyond_a_far_face(rt: HostRuntime) -> Result<(), Fail> {
 }
 
 #[test]
-fn sizes_and_ports_have_limits(rt: HostRuntime) -> Result<(), Fail> {
-    let wire: &[PortText] = &[BOTTOM, TOP];
-    let two_beside: &[PortText] = &[TOP, ((0, 0, 1), "-K", "I")];
-    let cases: [(Place, &[PortText], &str); 10] = [
-        ((32, 16, 1), wire, "pipes valid"),
-        ((1, 32, 16), &[BOTTOM, TOP], "pipes valid"),
-        ((27, 19, 1), wire, "refused: form"),
-        ((33, 1, 1), wire, "refused: form"),
-        ((0, 1, 1), wire, "refused: form"),
-        (UNIT, &[], "refused: form"),
-        (UNIT, two_beside, "refused: form"),
-        (UNIT, &[BOTTOM, ((0, 0, 1), "-K", "K")], "refused: form"),
-        (UNIT, &[BOTTOM, ((0, 0, 1), "-k", "J")], "refused: form"),
-        (UNIT, &[BOTTOM, ((0, 0, 2), "-K", "J")], "refused: form"),
+fn each_colour_rule_is_tested(rt: HostRuntime) -> Result<(), Fail> {
+    let wire: [&[Place]; 4] = [&[], &[], &[], &[O]];
+    let turn: [&[Place]; 4] = [&[], &[O], &[], &[O]];
+    let beside: &[PortText] = &[TOP, ((1, 0, 0), "-I", "J")];
+    let top_i: PortText = ((0, 0, 1), "-K", "I");
+    let cases: [(&[PortText], [&[Place]; 4], [&[Place]; 4], &str); 7] = [
+        // At a turn both pipes have the same kind on the third axis.
+        (beside, turn, [&[O], &[], &[], &[]], "valid"),
+        (beside, turn, PLAIN, "broken V7 0 0 0"),
+        (beside, turn, [&[O], &[], &[O], &[]], "broken V7 0 0 0"),
+        // A wall on a pipe along K: the kinds change places between its ends.
+        (&[BOTTOM, top_i], wire, [&[], &[], &[], &[O]], "valid"),
+        (
+            &[BOTTOM, TOP],
+            wire,
+            [&[], &[], &[], &[O]],
+            "broken V8 0 0 1",
+        ),
+        (
+            &[BOTTOM, TOP],
+            wire,
+            [&[], &[], &[O], &[]],
+            "broken V8 0 0 0",
+        ),
+        // The colours of pipes that do not exist say nothing.
+        (&[BOTTOM, TOP], wire, [&[O], &[O], &[], &[]], "valid"),
     ];
-    for (size, ports, want) in cases {
-        let ones: [&[Place]; 4] = [&[], &[], &[], &[O]];
-        check_says(&rt, &document(rt.alloc(), size, ports, ones)?, want)?;
+    for (ports, ones, colours, want) in cases {
+        check_says(
+            &rt,
+            &document(rt.alloc(), UNIT, ports, ones, colours, "")?,
+            want,
+        )?;
     }
     Ok(())
 }
 
-// The wire with one side, one entry of ExistI and further members as they are given.
-fn wire_with(alloc: Global, max_k: &str, along_i: &str, more: &str) -> Result<String, Fail> {
-    let ports = port_list(alloc, &[BOTTOM, TOP])?;
-    Ok(format!(in alloc;
-        "{{\"max_i\":1,\"max_j\":1,\"max_k\":{max_k},\"ports\":{ports},\"NodeY\":[[[0]]],\"ExistI\":{along_i},\"ExistJ\":[[[0]]],\"ExistK\":[[[1]]]{more}}}"
-    )?)
+// A wire up the first column, from a Y cube to the port that stands on it.
+const COLUMN: [Place; 3] = [O, (0, 0, 1), (0, 0, 2)];
+
+// Some of a document beside that wire: ports, the cells of NodeY, ExistI, ExistJ and ExistK, and members.
+type Part = (&'static [PortText], [&'static [Place]; 4], &'static str);
+
+// In the columns from the third on: what breaks each of the rules of pipes, in their order, and where.
+const BREAKS: [(Part, &str); 6] = [
+    ((&[], [&[], &[], &[(2, 1, 0)], &[]], ""), "broken V1 2 1 0"),
+    (
+        (&[((2, 0, 0), "+K", "J")], [&[], &[], &[], &[]], ""),
+        "broken V2 2 0 0",
+    ),
+    (
+        (
+            &[],
+            [&[(2, 0, 0), (2, 0, 2)], &[], &[], &[(2, 0, 0), (2, 0, 1)]],
+            ",\"optional\":{\"forbidden_cubes\":[[2,0,1]]}",
+        ),
+        "broken V3 2 0 1",
+    ),
+    ((&[], [&[(2, 0, 0)], &[], &[], &[]], ""), "broken V4 2 0 0"),
+    (
+        (&[], [&[(2, 0, 1)], &[], &[], &[(2, 0, 0)]], ""),
+        "broken V5 2 0 0",
+    ),
+    (
+        (
+            &[],
+            [
+                &[(2, 0, 1), (3, 0, 1), (2, 1, 1)],
+                &[(2, 0, 0)],
+                &[(2, 0, 0)],
+                &[(2, 0, 0), (3, 0, 0), (2, 1, 0)],
+            ],
+            "",
+        ),
+        "broken V6 2 0 0",
+    ),
+];
+
+fn joined(alloc: Global, first: &[Place], second: &[Place]) -> Result<Vec<Place>, Fail> {
+    let mut all = first.to_vec(alloc)?;
+    all.extend_from_slice(second)?;
+    Ok(all)
+}
+
+fn lists<'a>(
+    y_cells: &'a [Place],
+    along_i: &'a [Place],
+    along_j: &'a [Place],
+    along_k: &'a [Place],
+) -> [&'a [Place]; 4] {
+    [y_cells, along_i, along_j, along_k]
 }
 
 #[test]
-fn forms_are_exact(rt: HostRuntime) -> Result<(), Fail> {
-    let none = "[[[0]]]";
-    for (max_k, along_i, more, want) in [
-        ("1", none, "", "pipes valid"),
-        // Whole numbers, in a side and in a grid.
-        ("1.0", none, "", "refused: form"),
-        ("1e0", none, "", "refused: form"),
-        ("\"1\"", none, "", "refused: form"),
-        ("18446744073709551616", none, "", "refused: form"),
-        ("4294967297", none, "", "refused: form"),
-        ("1", "[[[-0]]]", "", "refused: form"),
-        ("1", "[[[-1]]]", "", "refused: form"),
-        ("1", "[[[2]]]", "", "refused: form"),
-        ("1", "[[[0.0]]]", "", "refused: form"),
-        ("1", "[[[18446744073709551616]]]", "", "refused: form"),
-        ("1", "[[[false]]]", "", "refused: form"),
-        // Lengths at each depth.
-        ("1", "[]", "", "refused: form"),
-        ("1", "[[]]", "", "refused: form"),
-        ("1", "[[[]]]", "", "refused: form"),
-        ("1", "[[[0]],[[0]]]", "", "refused: form"),
-        ("1", "[[[0],[0]]]", "", "refused: form"),
-        ("1", "[[[0,0]]]", "", "refused: form"),
-        ("1", "[[0]]", "", "refused: form"),
-        ("1", "[[[[0]]]]", "", "refused: form"),
-        ("1", "null", "", "refused: form"),
-        // The last of equal names counts, and other members are not read.
-        ("2,\"max_k\":1", none, "", "pipes valid"),
-        ("1,\"max_k\":2", none, "", "refused: form"),
-        ("1", none, ",\"ColorI\":7", "pipes valid"),
-        ("1", none, ",\"ColorI\":1e999", "refused: form"),
-        // Options.
-        ("1", none, ",\"optional\":{}", "pipes valid"),
-        (
-            "1",
-            none,
-            ",\"optional\":{\"forbidden_cubes\":[]}",
-            "pipes valid",
-        ),
-        (
-            "1",
-            none,
-            ",\"optional\":{\"forbidden_cubes\":[[0,0,0]]}",
-            "refused: form",
-        ),
-        (
-            "1",
-            none,
-            ",\"optional\":{\"forbidden_cubes\":{}}",
-            "refused: form",
-        ),
-        ("1", none, ",\"optional\":[]", "refused: form"),
-        ("1", none, ",\"optional\":null", "refused: form"),
-    ] {
-        check_says(&rt, &wire_with(rt.alloc(), max_k, along_i, more)?, want)?;
-    }
-    Ok(())
-}
-
-#[test]
-fn nesting_is_bounded(rt: HostRuntime) -> Result<(), Fail> {
+fn rules_of_pipes_come_before_those_of_colours(rt: HostRuntime) -> Result<(), Fail> {
     let alloc = rt.alloc();
-    for (arrays, want) in [(126, "pipes valid"), (127, "refused: form")] {
-        let mut more = String::from_str(alloc, ",\"deep\":")?;
-        for _ in 0..arrays {
-            more.push('[')?;
+    let port: PortText = ((0, 0, 3), "-K", "J");
+    // Inside the wire a kind changes from one pipe to the next, or the port does not show Z.
+    let inside: [&[Place]; 4] = [&[], &[], &[(0, 0, 1)], &[]];
+    let at_port: [&[Place]; 4] = [&[], &[], &[], &[(0, 0, 2)]];
+    for (colours, alone) in [(inside, "broken V7 0 0 1"), (at_port, "broken V8 0 0 3")] {
+        let wire: [&[Place]; 4] = [&[O], &[], &[], &COLUMN];
+        let size = (4, 2, 3);
+        check_says(
+            &rt,
+            &document(alloc, size, &[port], wire, colours, "")?,
+            alone,
+        )?;
+        for ((ports, ones, more), want) in BREAKS {
+            let mut all_ports = ports.to_vec(alloc)?;
+            all_ports.push(port)?;
+            let y_cells = joined(alloc, &[O], ones[0])?;
+            let along_k = joined(alloc, &COLUMN, ones[3])?;
+            let both = lists(&y_cells, ones[1], ones[2], &along_k);
+            let text = document(alloc, size, &all_ports, both, colours, more)?;
+            check_says(&rt, &text, want)?;
         }
-        for _ in 0..arrays {
-            more.push(']')?;
+    }
+    Ok(())
+}
+
+// The cells without this one, where it is among them, or else with it.
+fn flipped(alloc: Global, cells: &[Place], place: Place) -> Result<Vec<Place>, Fail> {
+    let mut others = Vec::new(alloc);
+    for cell in cells {
+        if *cell != place {
+            others.push(*cell)?;
         }
-        check_says(&rt, &wire_with(alloc, "1", "[[[0]]]", &more)?, want)?;
     }
-    let mut deep = String::new(alloc);
-    for _ in 0..128 {
-        deep.push('[')?;
+    if !cells.contains(&place) {
+        others.push(place)?;
     }
-    for _ in 0..128 {
-        deep.push(']')?;
+    Ok(others)
+}
+
+// A port below and one above. Between them a junction of three pipes, a wall above it, a junction of four
+// pipes with a Y cube under a wall, and a ring of five turns.
+const JUNCTIONS: [&[Place]; 4] = [
+    &[(1, 0, 0)],
+    &[(0, 0, 1), (1, 0, 1), (1, 1, 2)],
+    &[(1, 0, 2), (2, 0, 1)],
+    &[O, (0, 0, 1), (0, 0, 2), (1, 0, 0), (1, 0, 1), (2, 1, 1)],
+];
+
+const JUNCTION_COLOURS: [&[Place]; 4] = [
+    &[(0, 0, 1), (1, 0, 1)],
+    &[(1, 0, 2)],
+    &[(0, 0, 2), (1, 0, 0), (2, 1, 1)],
+    &[(0, 0, 1), (0, 0, 2), (2, 1, 1)],
+];
+
+#[test]
+fn every_flip_of_one_colour_is_seen(rt: HostRuntime) -> Result<(), Fail> {
+    let alloc = rt.alloc();
+    let size = (3, 2, 3);
+    let ports = [BOTTOM, ((0, 0, 3), "-K", "I")];
+    let text = document(alloc, size, &ports, JUNCTIONS, JUNCTION_COLOURS, "")?;
+    check_says(&rt, &text, "valid")?;
+    for (grid, place, want) in [
+        // A pipe along I or J shows its colour at both ends: the lesser one is named.
+        (0, (0, 0, 1), "broken V7 0 0 1"),
+        (0, (1, 0, 1), "broken V7 1 0 1"),
+        (0, (1, 1, 2), "broken V7 1 1 2"),
+        (1, (1, 0, 2), "broken V7 1 0 2"),
+        (1, (2, 0, 1), "broken V7 2 0 1"),
+        // A pipe along K shows one colour below. A Y cube takes either.
+        (2, O, "broken V8 0 0 0"),
+        (2, (0, 0, 1), "broken V7 0 0 1"),
+        (2, (0, 0, 2), "broken V7 0 0 2"),
+        (2, (1, 0, 0), "valid"),
+        (2, (1, 0, 1), "broken V7 1 0 1"),
+        (2, (2, 1, 1), "broken V7 2 1 1"),
+        // And one above.
+        (3, O, "broken V7 0 0 1"),
+        (3, (0, 0, 1), "broken V7 0 0 2"),
+        (3, (0, 0, 2), "broken V8 0 0 3"),
+        (3, (1, 0, 0), "broken V7 1 0 1"),
+        (3, (1, 0, 1), "broken V7 1 0 2"),
+        (3, (2, 1, 1), "broken V7 2 1 2"),
+    ] {
+        let [along_i, along_j, low, high] = JUNCTION_COLOURS;
+        let list = match grid {
+            0 => along_i,
+            1 => along_j,
+            2 => low,
+            _ => high,
+        };
+        let cells = flipped(alloc, list, place)?;
+        let turned = match grid {
+            0 => lists(&cells, along_j, low, high),
+            1 => lists(along_i, &cells, low, high),
+            2 => lists(along_i, along_j, &cells, high),
+            _ => lists(along_i, along_j, low, &cells),
+        };
+        check_says(
+            &rt,
+            &document(alloc, size, &ports, JUNCTIONS, turned, "")?,
+            want,
+        )?;
     }
-    check_says(&rt, &deep, "refused: form")?;
-    check_says(&rt, "", "refused: form")?;
-    check_says(&rt, "[]", "refused: form")?;
-    check_says(&rt, "{}", "refused: form")
+    Ok(())
+}
+
+#[test]
+fn colours_and_forbidden_cells_of_a_straight_wire(rt: HostRuntime) -> Result<(), Fail> {
+    let alloc = rt.alloc();
+    let ports = [BOTTOM, ((0, 0, 2), "-K", "J")];
+    let wire: [&[Place]; 4] = [&[], &[], &[], &[O, (0, 0, 1)]];
+    let both: &[Place] = &[O, (0, 0, 1)];
+    let forbidden = ",\"optional\":{\"forbidden_cubes\":[[0,0,1]]}";
+    for (colours, more, want) in [
+        (PLAIN, "", "valid"),
+        ([&[], &[], &[], &[O]], "", "broken V7 0 0 1"),
+        ([&[], &[], both, both], "", "broken V8 0 0 0"),
+        (PLAIN, forbidden, "broken V3 0 0 1"),
+    ] {
+        let text = document(alloc, (1, 1, 2), &ports, wire, colours, more)?;
+        check_says(&rt, &text, want)?;
+    }
+    Ok(())
 }

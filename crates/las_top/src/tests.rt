@@ -10,7 +10,7 @@ const WIRE: &str =
 
 // A port without its pipe.
 const NO_PIPE: &str =
-    "{\"ExistI\":[[[0]]],\"ExistJ\":[[[0]]],\"ExistK\":[[[0]]],\"NodeY\":[[[0]]],\"max_i\":1,\"max_j\":1,\"max_k\":1,\"ports\":[{\"direction\":\"-K\",\"location\":[0,0,1],\"z_basis_direction\":\"J\"}]}";
+    "{\"ExistI\":[[[0]]],\"ExistJ\":[[[0]]],\"ExistK\":[[[0]]],\"NodeY\":[[[0]]],\"max_i\":1,\"max_j\":1,\"max_k\":1,\"ports\":[{\"direction\":\"-K\",\"location\":[0,0,1],\"z_basis_direction\":\"J\"}],\"ColorI\":[[[0]]],\"ColorJ\":[[[0]]],\"ColorKM\":[[[0]]],\"ColorKP\":[[[0]]],\"stabilizers\":[\"Z\"]}";
 
 const MOST: usize = 4_194_304;
 
@@ -62,7 +62,7 @@ fn a_document_cut_short_is_refused(rt: HostRuntime) -> Result<(), Fail> {
         )?;
     }
     let text = &bytes[..bytes.len().saturating_sub(1)];
-    answers(&rt, &["check"], text, (Status::Good, "pipes valid\n", ""))
+    answers(&rt, &["check"], text, (Status::Good, "valid\n", ""))
 }
 
 #[test]
@@ -70,7 +70,7 @@ fn one_byte_more_than_the_limit_is_too_long(rt: HostRuntime) -> Result<(), Fail>
     let alloc = rt.alloc();
     let mut bytes = WIRE.as_bytes().to_vec(alloc)?;
     bytes.resize(MOST, b' ')?;
-    answers(&rt, &["check"], &bytes, (Status::Good, "pipes valid\n", ""))?;
+    answers(&rt, &["check"], &bytes, (Status::Good, "valid\n", ""))?;
     bytes.push(b' ')?;
     answers(
         &rt,
@@ -90,7 +90,7 @@ fn faults(
     let alloc = rt.alloc();
     let words = words(alloc, &["check"])?;
     let mut src = MemSource::new(text.as_bytes().to_vec(alloc)?, 300, fails.0.to_vec(alloc)?);
-    let mut out = MemSink::new(alloc, 10, fails.1.to_vec(alloc)?);
+    let mut out = MemSink::new(alloc, 3, fails.1.to_vec(alloc)?);
     let mut err = MemSink::new(alloc, 10, fails.2.to_vec(alloc)?);
     let status = run_las(alloc, &words, &mut src, &mut out, &mut err);
     assert_eq!(rt; status, want.0);
@@ -105,18 +105,8 @@ fn faults_are_told_by_their_object(rt: HostRuntime) -> Result<(), Fail> {
     faults(&rt, WIRE, (&[1], &[], &[]), (Status::ReadFault, "", ""))?;
     faults(&rt, "", (&[0], &[0], &[0]), (Status::ReadFault, "", ""))?;
     faults(&rt, WIRE, (&[], &[0], &[]), (Status::WriteFault, "", ""))?;
-    faults(
-        &rt,
-        WIRE,
-        (&[], &[1], &[]),
-        (Status::WriteFault, "pipes vali", ""),
-    )?;
-    faults(
-        &rt,
-        WIRE,
-        (&[], &[2], &[0]),
-        (Status::Good, "pipes valid\n", ""),
-    )?;
+    faults(&rt, WIRE, (&[], &[1], &[]), (Status::WriteFault, "val", ""))?;
+    faults(&rt, WIRE, (&[], &[2], &[0]), (Status::Good, "valid\n", ""))?;
     faults(
         &rt,
         NO_PIPE,

@@ -1,8 +1,9 @@
 use Rattle.std.proofs.Common.{◌≡◌, ◌∙◌, ◌||◌, sym, ap, subst, true}
 use Rattle.las_base.specs.Cells.{holds, same_cell}
 use Rattle.grid_box.specs.Drawings.{is_y}
-use Rattle.grid_box.specs.Slots.{slot_at}
-use Rattle.grid_box.proofs.SlotLemmas.{is_y-set, kept_put_y, drawn_by_slots}
+use Rattle.grid_box.specs.LookUps.{drawing_by}
+use Rattle.grid_box.specs.Slots.{slot_at, bit_at}
+use Rattle.grid_box.proofs.SlotLemmas.{is_y-set, set_or, kept_put_y, drawn_by_slots}
 use Rattle.grid_box.proofs.diagram.Diagram.put_y.Goals as goal
 
 pub returns-clause-y_cells : goal.returns-clause-y_cells
@@ -10,7 +11,8 @@ returns-clause-y_cells c x =
     let s = c.self.inside.size in
     let held : holds s c.args.cell ≡ true = subst (λ d. holds d.size c.args.cell ≡ true) (sym c.self.view_is) c.requires in
     rw c.index-number.ensures.value
-    (is_y-set s (slot_at s c.self.inside.slots.items) c.self.inside.y_bits.items c.args.cell c.self.invariant.bit_count held x
+    (is_y-set s (slot_at s c.self.inside.slots.items) c.self.inside.y_bits.items c.args.cell true c.self.invariant.bit_count held x
+    ∙ set_or (same_cell x c.args.cell) (is_y (drawing_by s (slot_at s c.self.inside.slots.items) (bit_at s c.self.inside.y_bits.items)) x)
     ∙ ap (λ d. same_cell x c.args.cell || is_y d x) c.self.view_is)
 
 pub returns-clause-drawn : goal.returns-clause-drawn
