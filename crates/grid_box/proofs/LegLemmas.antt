@@ -10,7 +10,7 @@ use Rattle.las_base.specs.declared.End.{End}
 use Rattle.las_base.specs.declared.Cell.{Cell}
 use Rattle.las_base.specs.Axes.{same_axis}
 use Rattle.las_base.specs.Cells.{same_cell, below}
-use Rattle.las_base.proofs.Same.{same_axis-is}
+use Rattle.las_base.proofs.Same.{same_axis-is, same_cell-is}
 use Rattle.grid_box.specs.declared.Leg.{Leg}
 use Rattle.grid_box.specs.Drawings.{Pipe, Drawing, is_pipe_at, pipe_at, kinds_at}
 use Rattle.grid_box.specs.Legs.{Position, pipe_end_at, leg_of}
@@ -23,9 +23,14 @@ found_passes test (y ∷ ys) x e = by_test (test y) refl e (found_passes test ys
     by_test true t e later = let same : y ≡ x = cc in ap test (sym same) ∙ t
     by_test false t e later = later e
 
--- the pipe that is found along an axis is along it
+-- the pipe that is found at a place is along the axis and has the low cell
+pub found_at : (d : Drawing) (a : Axis) (c : Cell) (p : Pipe) → pipe_at d a c ≡ Some p → (p.axis ≡ a) × (p.cell ≡ c)
+found_at d a c p e =
+    let parts = and_parts (same_axis p.axis a) (same_cell p.cell c) (found_passes (is_pipe_at a c) d.pipes p e) in
+    (same_axis-is p.axis a parts.0, same_cell-is p.cell c parts.1)
+
 pub found_along : (d : Drawing) (a : Axis) (c : Cell) (p : Pipe) → pipe_at d a c ≡ Some p → p.axis ≡ a
-found_along d a c p e = same_axis-is p.axis a (and_parts (same_axis p.axis a) (same_cell p.cell c) (found_passes (is_pipe_at a c) d.pipes p e)).0
+found_along d a c p e = (found_at d a c p e).0
 
 low_leg : (a : Axis) (o : Option Pipe) → ((p : Pipe) → o ≡ Some p → p.axis ≡ a) → (k : Kind × Kind) → option_map (λ p. (p.low, p.high)) o ≡ Some k
     → option_map leg_of (option_map (λ p. record { pipe = p; which = End.Low }) o) ≡ Some (record { axis = a; which = End.Low; kind_next = k.0 })

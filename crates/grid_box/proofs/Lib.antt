@@ -7,3 +7,5 @@ pub mod SlotLemmas
 pub mod LegLemmas
 pub mod StayLemmas
 pub mod FindLemmas
+pub mod SheetLemmas
+pub mod SheetBitLemmas

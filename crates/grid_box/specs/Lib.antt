@@ -7,4 +7,6 @@ pub mod PipeRules
 pub mod Breaches
 pub mod Tests
 pub mod Sheets
+pub mod Surfaces
+pub mod SheetBits
 pub mod Examples

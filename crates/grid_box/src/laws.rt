@@ -3,6 +3,7 @@ ghost use Rattle.grid_box.specs.LookUps.{LookUpsTell};
 ghost use Rattle.grid_box.specs.Scans.{PipeEndsByScan};
 ghost use Rattle.grid_box.specs.PipeRules.{StaysByAxes};
 ghost use Rattle.grid_box.specs.Breaches.{NoBreachIsValid};
+ghost use Rattle.grid_box.specs.Surfaces.{SheetsTell};
 
 /// Drawings of one size with the same look-ups are one: a drawing's order and its look-ups determine it.
 pub fn look_ups_tell()
@@ -22,4 +23,9 @@ pub fn no_breach_is_valid()
 /// The rule that pipes stay in the box can be tested axis by axis.
 pub fn stays_by_axes()
     ensures { StaysByAxes }
+{}
+
+/// Sheets in order are one where the same sheets are listed for each flow.
+pub fn sheets_tell()
+    ensures { SheetsTell }
 {}

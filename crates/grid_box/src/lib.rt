@@ -13,6 +13,7 @@ mod diagram;
 mod examples;
 mod laws;
 mod scan;
+mod sheets;
 
 pub use diagram::Diagram;
 pub use examples::{
@@ -22,8 +23,9 @@ pub use examples::{
     y_cube_ends_a_leg,
 };
 use las_base::{Axis, Cell, End, Kind, Port, Way};
-pub use laws::{look_ups_tell, no_breach_is_valid, pipe_ends_by_scan, stays_by_axes};
+pub use laws::{look_ups_tell, no_breach_is_valid, pipe_ends_by_scan, sheets_tell, stays_by_axes};
 pub use scan::first_failing;
+pub use sheets::Sheets;
 
 /// The end of a pipe that stands at a cell.
 #[derive(Clone, Copy, PartialEq, Eq, Debug)]

@@ -14,9 +14,9 @@ use Rattle.las_base.specs.Jobs.{Task, IsTask, within_limits, port_fits, distinct
 use Rattle.las_base.proofs.Same.{same_cell-sym}
 use Rattle.las_spec.specs.declared.refusal.SpecRefused.{SpecRefused}
 use Rattle.las_spec.specs.declared.refusal.SpecRefused.TheVariants.{SizeOut, PortCount, PortWay, PortBasis, PortPlace, PortTwice, FlowCount, FlowLength, FlowLetter, ForbiddenPlace, BoxCount, BoxSize, BoxPort}
-use Rattle.las_spec.specs.Written.{port_written}
+use Rattle.las_spec.specs.Written.{Written, port_written, written_by}
 use Rattle.las_spec.specs.Refusals.{first_of, unless, is_count, has_bad_basis, fits_at, first_repeat, first_bad_letter, carried, first_bad_port, first_bad_box, port_refusals, flow_refusals, job_refusals, box_refusals, job_refusal, refusal}
-use Rattle.las_spec.specs.Briefs.{Brief, IsBrief, same_size, port_of, letters_of, port_carried, judged, spec_given, brief_written}
+use Rattle.las_spec.specs.Briefs.{Brief, IsBrief, brief_of, once, same_size, port_of, letters_of, port_carried, judged, job_given, spec_given, task_written, brief_written}
 use Rattle.las_spec.proofs.Lists.{all_of_each, all_so, no_position, no_position_made, map_back, filter_back}
 use Rattle.las_spec.proofs.Distinct.{distinct, apart, first_is_new, first_not_seen, rest_is_apart, same_size-refl, distinct-cells, cells_once, sizes_once}
 use Rattle.las_spec.proofs.Members.{brief_writes}
@@ -161,11 +161,14 @@ no_flow_refusal : (t : Task) → IsTask t → first_of (flow_refusals (length (m
 no_flow_refusal t h =
     none_first (flow_refusals (length (map port_written t.ports)) (map (map Some) t.flows)) (flow_count_row t.flows h.flow_count, (flow_length_row t.ports t.flows h.words, (flow_letter_row t.flows, tt)))
 
-no_job_refusal : (b : Brief) → IsBrief b → job_refusal (brief_writes b) ≡ None
+-- what a job writes, in a document with these boxes
+abbrev pub job_writes : Task → List Size → Written
+job_writes t boxes = written_by t.size t.ports t.flows t.forbidden boxes
+
+no_job_refusal : (t : Task) (boxes : List Size) → IsTask t → job_refusal (job_writes t boxes) ≡ None
 unfolding job_refusal
-no_job_refusal b h =
-    let t = b.task in
-    none_first (job_refusals (brief_writes b)) (holds_so (within_limits t.size) SizeOut h.task.size, (no_port_refusal t h.task, (no_flow_refusal t h.task, (forbidden_row t.size t.forbidden h.task.forbidden, tt))))
+no_job_refusal t boxes h =
+    none_first (job_refusals (job_writes t boxes)) (holds_so (within_limits t.size) SizeOut h.size, (no_port_refusal t h, (no_flow_refusal t h, (forbidden_row t.size t.forbidden h.forbidden, tt))))
 
 no_box_refusal : (b : Brief) → IsBrief b → first_of (box_refusals (brief_writes b)) ≡ None
 no_box_refusal b h =
@@ -179,16 +182,23 @@ no_box_refusal b h =
 
 no_refusal : (b : Brief) → IsBrief b → refusal (brief_writes b) ≡ None
 unfolding refusal
-no_refusal b h = rw (no_job_refusal b h) (no_box_refusal b h)
+no_refusal b h = rw (no_job_refusal b.task b.boxes h.task) (no_box_refusal b h)
 
 -- ---- what is written is the specification
 
-written_back : (b : Brief) → IsBrief b → brief_written (brief_writes b) ≡ b
-written_back b h =
-    let t = b.task in
+task_back : (t : Task) (boxes : List Size) → IsTask t → task_written (job_writes t boxes) ≡ t
+task_back t boxes h =
     let ports : filter_map port_of (map port_written t.ports) ≡ t.ports = filter_back port_written port_of (λ p. refl) t.ports in
     let flows : map letters_of (map (map Some) t.flows) ≡ t.flows = map_back (map Some) letters_of (λ word. filter_back Some (λ o. o) (λ p. refl) word) t.flows in
-    rw (ports, flows, cells_once t.forbidden h.task.distinct_forbidden, sizes_once b.boxes h.distinct_boxes) refl
+    rw (ports, flows, cells_once t.forbidden h.distinct_forbidden) refl
+
+written_back : (b : Brief) → IsBrief b → brief_written (brief_writes b) ≡ b
+written_back b h =
+    ap (λ t. brief_of t (once same_size [] b.boxes)) (task_back b.task b.boxes h.task) ∙ ap (brief_of b.task) (sizes_once b.boxes h.distinct_boxes)
+
+-- what a lawful job writes gives that job
+pub job_writes_give : (t : Task) (boxes : List Size) → IsTask t → job_given (job_writes t boxes) ≡ Ok t
+job_writes_give t boxes h = ap (λ r. judged r (task_written (job_writes t boxes))) (no_job_refusal t boxes h) ∙ ap Ok (task_back t boxes h)
 
 -- what a lawful specification writes gives that specification
 pub writes_give : (b : Brief) → IsBrief b → spec_given (brief_writes b) ≡ Ok b

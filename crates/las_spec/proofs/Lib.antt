@@ -15,3 +15,4 @@ pub mod LineFeed
 pub mod Printed
 pub mod SpecValues
 pub mod ReadBackLemmas
+pub mod JobLemmas

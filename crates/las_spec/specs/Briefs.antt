@@ -1,6 +1,6 @@
 -- Specifications as contracts see them, and what a document gives.
-use Rattle.std.specs.Prelude.{◌≡◌, codes, is_none, ℕ, ◌<◌, ◌≤◌, Bool, List, [], ◌∷◌, ◌++◌, map, length, Option, Some, None, Result, Ok, Err, IsTrue, if◌then◌else◌, not, nat_eq, ◌&&◌, true, filter}
-use Rattle.std.specs.List.{list_all, list_any, filter_map}
+use Rattle.std.specs.Prelude.{◌≡◌, ℕ, ◌<◌, ◌≤◌, Bool, List, [], ◌∷◌, ◌++◌, map, length, Option, Some, None, Result, Ok, Err, IsTrue, if◌then◌else◌, not, nat_eq, ◌&&◌, true, filter}
+use Rattle.std.specs.List.{find, list_all, list_any, filter_map}
 use Rattle.serde_json.specs.Data.{Data}
 use Rattle.json_shape.specs.Arrays.{is_object}
 use Rattle.json_shape.specs.Documents.{json_of}
@@ -13,13 +13,13 @@ use Rattle.las_base.specs.declared.Port.{Port}
 use Rattle.las_base.specs.Cells.{holds, same_cell}
 use Rattle.las_base.specs.Jobs.{Task, IsTask, task_of, within_limits}
 use Rattle.las_spec.specs.declared.refusal.Field.{Field}
+use Rattle.las_spec.specs.declared.refusal.Field.TheVariants.{MaxI, MaxJ, MaxK, Optional, ForbiddenCubes, Ports, Stabilizers}
 use Rattle.las_spec.specs.declared.refusal.SpecRefused.{SpecRefused}
 use Rattle.las_spec.specs.declared.refusal.SpecRefused.TheVariants.{NotJson, NotObject, Missing, Shape}
 use Rattle.las_spec.specs.declared.draft.WrittenPort.{WrittenPort}
 use Rattle.las_spec.specs.Written.{Written}
-use Rattle.std.specs.Option.{option_map_or, option_and_then}
-use Rattle.serde_json.specs.Find.{get}
-use Rattle.las_spec.specs.Documents.{size_in, ports_in, words_in, forbidden_in, written_of, missing_in, misshapen_in, written_in}
+use Rattle.std.specs.Option.{option_and_then}
+use Rattle.las_spec.specs.Documents.{size_in, ports_in, words_in, forbidden_in, written_of, has_shape, missing_in, misshapen_in, written_in}
 use Rattle.las_spec.specs.Refusals.{carried, job_refusal, refusal}
 
 -- a specification: a job, and the boxes in which it is asked
@@ -115,18 +115,26 @@ pub record IsBrief (b : Brief) : Type 0 where
   pub distinct_boxes : IsTrue (distinct_sizes b.boxes)
   pub box_jobs : (box : Size) → list_any (same_size box) b.boxes ≡ true → IsTask (job_of b box)
 
--- the options are an object, where they are there
-abbrev pub has_options : Data → Bool
-has_options d = option_map_or is_object (get (codes "optional") d) true
+-- ---- a job alone, in a document that has more members
+
+-- the members of a job, in the order of their names
+abbrev pub job_fields : List Field
+job_fields = MaxI ∷ MaxJ ∷ MaxK ∷ Optional ∷ ForbiddenCubes ∷ Ports ∷ Stabilizers ∷ []
+
+-- the first of them that has not its shape
+abbrev pub job_misshapen_in : Data → Option Field
+job_misshapen_in d = find (λ f. not (has_shape d f)) job_fields
 
 -- what a value writes of a job, which has no boxes
 unfoldable pub job_written_in : Data → Option Written
 job_written_in d = option_and_then (λ size. written_of size (ports_in d) (words_in d) (forbidden_in d) (Some [])) (size_in d)
 
--- the job that is written, where it is not refused
-abbrev pub job_unless_refused : Written → Option Task
-job_unless_refused w = if is_none (job_refusal w) then Some (task_written w) else None
+-- a job, by the first member that has not its shape, and what is written
+abbrev pub job_by : Option Field → Option Written → Result Task SpecRefused
+job_by (Some f) _ = Err (Shape f)
+job_by None None = Err NotObject
+job_by None (Some w) = job_given w
 
--- the job that a value gives, where every member of a job is there in its shape, and the job is not refused
-unfoldable pub job_in : Data → Option Task
-job_in d = if has_options d then option_and_then job_unless_refused (job_written_in d) else None
+-- the job that a value gives, or the first refusal: of a member's shape, or of the table without its rows on boxes
+unfoldable pub job_in : Data → Result Task SpecRefused
+job_in d = job_by (job_misshapen_in d) (job_written_in d)

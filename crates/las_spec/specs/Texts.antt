@@ -1,7 +1,8 @@
 -- The normal form of a specification, and the texts of refusals.
-use Rattle.std.specs.Prelude.{◌≡◌, Ok, ℕ, List, [], ◌∷◌, ◌++◌, map, codes}
+use Rattle.std.specs.Prelude.{◌≡◌, Ok, Some, ℕ, List, [], ◌∷◌, ◌++◌, map, codes}
 use Rattle.std.specs.Fmt.{decimal}
 use Rattle.serde_json.specs.Data.{Data, unsigned, number, string, array, object, no_members, member}
+use Rattle.serde_json.specs.Find.{get}
 use Rattle.serde_json.specs.View.{items_of}
 use Rattle.serde_json.specs.Written.{compact_text}
 use Rattle.las_base.specs.declared.Axis.{Axis}
@@ -12,10 +13,11 @@ use Rattle.las_base.specs.declared.Pauli.{Pauli}
 use Rattle.las_base.specs.declared.Cell.{Cell}
 use Rattle.las_base.specs.declared.Size.{Size}
 use Rattle.las_base.specs.declared.Port.{Port}
+use Rattle.las_base.specs.Jobs.{Task, IsTask}
 use Rattle.las_spec.specs.declared.refusal.SpecRefused.{SpecRefused}
 use Rattle.las_spec.specs.declared.refusal.SpecRefused.TheVariants.{NotJson, NotObject, Missing, Shape, SizeOut, PortCount, PortWay, PortBasis, PortPlace, PortTwice, FlowCount, FlowLength, FlowLetter, ForbiddenPlace, BoxCount, BoxSize, BoxPort, Memory}
 use Rattle.las_spec.specs.Documents.{field_name}
-use Rattle.las_spec.specs.Briefs.{Brief, IsBrief, spec_of}
+use Rattle.las_spec.specs.Briefs.{Brief, IsBrief, spec_of, job_in}
 
 -- ---- the normal form
 
@@ -84,6 +86,19 @@ spec_text_of b = compact_text (spec_value b) ++ 10 ∷ []
 -- what is printed is read back
 abbrev pub TextIsReadBack : Type 0
 TextIsReadBack = (b : Brief) → IsBrief b → spec_of (spec_text_of b) ≡ Ok b
+
+-- the value has the members of a job, as they are written
+pub record HoldsJob (d : Data) (t : Task) : Type 0 where
+  pub i : get (codes "max_i") d ≡ Some (whole_value t.size.i)
+  pub j : get (codes "max_j") d ≡ Some (whole_value t.size.j)
+  pub k : get (codes "max_k") d ≡ Some (whole_value t.size.k)
+  pub optional : get (codes "optional") d ≡ Some (options_value t.forbidden)
+  pub ports : get (codes "ports") d ≡ Some (array_of (map port_value t.ports))
+  pub flows : get (codes "stabilizers") d ≡ Some (array_of (map word_value t.flows))
+
+-- from such a value the job is read back
+abbrev pub JobIsReadBack : Type 0
+JobIsReadBack = (d : Data) (t : Task) → IsTask t → HoldsJob d t → job_in d ≡ Ok t
 
 -- ---- refusals
 

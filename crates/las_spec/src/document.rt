@@ -7,10 +7,11 @@ ghost use Rattle.serde_json.specs.View.{view};
 ghost use Rattle.serde_json.specs.Find.{get};
 ghost use Rattle.json_shape.specs.Arrays.{array_items, each, is_object, objects};
 ghost use Rattle.json_shape.specs.Numbers.{triple};
+ghost use Rattle.las_spec.specs.declared.refusal.Field.TheVariants.{Optional};
 ghost use Rattle.las_spec.specs.declared.refusal.SpecRefused.TheVariants.{Memory, Shape};
 ghost use Rattle.las_spec.specs.Written.{written_as};
-ghost use Rattle.las_spec.specs.Documents.{word_in, cell_of, size_of, port_in, ports_in, words_in, triples, cubes_in, forbidden_in, boxes_in, field_name, missing_in, misshapen_in, written_in};
-ghost use Rattle.las_spec.specs.Briefs.{has_options, job_written_in};
+ghost use Rattle.las_spec.specs.Documents.{word_in, cell_of, size_of, port_in, ports_in, words_in, triples, cubes_in, forbidden_in, boxes_in, field_name, has_shape, missing_in, misshapen_in, written_in};
+ghost use Rattle.las_spec.specs.Briefs.{job_misshapen_in, job_written_in};
 
 use crate::draft::{Draft, WrittenPort};
 use crate::letters::{axis_text, direction_text, read_word};
@@ -173,9 +174,9 @@ fn read_boxes(alloc: Global, own: Size, value: &Value) -> Result<Option<Vec<Size
     }
 }
 
-/// Whether the options are an object, where they are there.
-pub(crate) fn has_options(value: &Value) -> bool
-    ensures { result ≡ has_options (view value.now) }
+// Whether the options are an object, where they are there.
+fn has_options(value: &Value) -> bool
+    ensures { result ≡ has_shape (view value.now) Optional }
 {
     match value.get(Field::Optional.name()) {
         Some(options) => options.is_object(),
@@ -239,34 +240,38 @@ pub(crate) fn read_written(alloc: Global, value: &Value) -> Result<Draft, SpecRe
     })
 }
 
-/// What the value writes of a job, where each of its members is there in its shape. There are no boxes.
+/// What the value writes of a job, or the first of a job's members that has not its shape. There are no boxes.
 #[tactic(auto, unfolding(crate::specs::Briefs::job_written_in))]
-pub(crate) fn read_job_written(alloc: Global, value: &Value) -> Result<Option<Draft>, AllocError>
-    ensures { IfOk result (λ o. option_map written_as o ≡ job_written_in (view value.now)) }
+pub(crate) fn read_job_written(alloc: Global, value: &Value) -> Result<Draft, SpecRefused>
+    ensures ok { IfOk result (λ draft. (job_misshapen_in (view value.now) ≡ None) × (job_written_in (view value.now) ≡ Some (written_as draft))) }
+    ensures err { IfErr result (λ e. e ≢ Memory → option_map Shape (job_misshapen_in (view value.now)) ≡ Some e) }
 {
     let Some(i) = whole_member(value, Field::MaxI.name()) else {
-        return Ok(None);
+        return Err(SpecRefused::Shape(Field::MaxI));
     };
     let Some(j) = whole_member(value, Field::MaxJ.name()) else {
-        return Ok(None);
+        return Err(SpecRefused::Shape(Field::MaxJ));
     };
     let Some(k) = whole_member(value, Field::MaxK.name()) else {
-        return Ok(None);
+        return Err(SpecRefused::Shape(Field::MaxK));
+    };
+    if !has_options(value) {
+        return Err(SpecRefused::Shape(Field::Optional));
+    }
+    let Some(forbidden) = read_forbidden(alloc, value)? else {
+        return Err(SpecRefused::Shape(Field::ForbiddenCubes));
     };
     let Some(ports) = read_ports(alloc, value)? else {
-        return Ok(None);
+        return Err(SpecRefused::Shape(Field::Ports));
     };
     let Some(words) = read_words(alloc, value)? else {
-        return Ok(None);
+        return Err(SpecRefused::Shape(Field::Stabilizers));
     };
-    let Some(forbidden) = read_forbidden(alloc, value)? else {
-        return Ok(None);
-    };
-    Ok(Some(Draft {
+    Ok(Draft {
         size: Size { i, j, k },
         ports,
         words,
         forbidden,
         boxes: Vec::new(alloc),
-    }))
+    })
 }

@@ -19,13 +19,13 @@ mod text;
 pub use boxes::{job, sweep_order};
 pub use flow_word::FlowWord;
 pub use las_base::Port;
-pub use laws::text_is_read_back;
+pub use laws::{job_is_read_back, text_is_read_back};
 pub use letters::{axis_text, direction_text};
 pub use make::{make_job, make_spec};
 pub use read::{read_job, read_spec};
 pub use refusal::{Field, SpecRefused, refusal_text};
 pub use spec::{Job, Rules, Spec};
-pub use text::spec_text;
+pub use text::{options_value, port_values, spec_text, word_values};
 
 #[cfg(test)]
 mod box_tests;

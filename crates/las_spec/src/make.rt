@@ -4,7 +4,7 @@ ghost use Rattle.std.specs.List.{filter_map};
 ghost use Rattle.las_base.specs.Cells.{same_cell};
 ghost use Rattle.las_spec.specs.Written.{port_written, written_as, written_by};
 ghost use Rattle.las_spec.specs.Refusals.{job_refusal, refusal};
-ghost use Rattle.las_spec.specs.Briefs.{same_size, once, port_of, letters_of, task_written, brief_written, spec_given, job_given, job_unless_refused};
+ghost use Rattle.las_spec.specs.Briefs.{same_size, once, port_of, letters_of, task_written, brief_written, spec_given, job_given};
 ghost use Rattle.las_spec.specs.declared.refusal.SpecRefused.TheVariants.{Memory};
 
 use crate::draft::{Draft, WrittenPort};
@@ -94,7 +94,7 @@ fn spec_of_draft(alloc: Global, draft: &Draft) -> Result<Spec, AllocError>
 }
 
 /// The job that a draft writes, or its first refusal. Its boxes play no part.
-fn job_from(alloc: Global, draft: &Draft) -> Result<Job, SpecRefused>
+pub(crate) fn job_from(alloc: Global, draft: &Draft) -> Result<Job, SpecRefused>
     ensures ok { IfOk result (λ j. job_given (written_as draft.now) ≡ Ok j) }
     ensures err { IfErr result (λ e. e ≢ Memory → job_given (written_as draft.now) ≡ Err e) }
 {
@@ -104,16 +104,6 @@ fn job_from(alloc: Global, draft: &Draft) -> Result<Job, SpecRefused>
             Ok(job) => Ok(job),
             Err(AllocError) => Err(SpecRefused::Memory),
         },
-    }
-}
-
-/// The job that a draft writes, where none of the refusals of jobs holds.
-pub(crate) fn job_unless_refused(alloc: Global, draft: &Draft) -> Result<Option<Job>, AllocError>
-    ensures { IfOk result (λ o. o ≡ job_unless_refused (written_as draft.now)) }
-{
-    match job_refusal(draft) {
-        Some(_) => Ok(None),
-        None => Ok(Some(job_of_draft(alloc, draft)?)),
     }
 }
 

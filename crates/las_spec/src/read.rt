@@ -4,13 +4,13 @@ ghost use Rattle.serde_json.specs.View.{view};
 ghost use Rattle.las_spec.specs.declared.refusal.SpecRefused.TheVariants.{Memory};
 ghost use Rattle.las_spec.specs.Briefs.{spec_in, spec_of, job_in};
 
-use crate::document::{has_options, missing, read_job_written, read_written};
-use crate::make::{job_unless_refused, spec_from};
+use crate::document::{missing, read_job_written, read_written};
+use crate::make::{job_from, spec_from};
 use crate::refusal::SpecRefused;
 use crate::spec::{Job, Spec};
 use json_shape::read_json;
 use serde_json::Value;
-use std::alloc::{AllocError, Global};
+use std::alloc::Global;
 
 fn spec_in(alloc: Global, value: &Value) -> Result<Spec, SpecRefused>
     ensures ok { IfOk result (λ s. spec_in (view value.now) ≡ Ok s) }
@@ -37,17 +37,13 @@ pub fn read_spec(alloc: Global, bytes: &[u8]) -> Result<Spec, SpecRefused>
     }
 }
 
-/// The job that the value of a document gives, or none: where a member of a job is absent or has another
-/// shape, or where a refusal holds that is not one of boxes. The member `boxes` is not read.
+/// The job that the value of a document gives, or its first refusal: the shape of one of its members, in the
+/// order of their names, or a row of the table that is not on boxes. The member `boxes` is not read.
 #[tactic(auto, unfolding(crate::specs::Briefs::job_in))]
-pub fn read_job(alloc: Global, value: &Value) -> Result<Option<Job>, AllocError>
-    ensures { IfOk result (λ o. o ≡ job_in (view value.now)) }
+pub fn read_job(alloc: Global, value: &Value) -> Result<Job, SpecRefused>
+    ensures ok { IfOk result (λ j. job_in (view value.now) ≡ Ok j) }
+    ensures err { IfErr result (λ e. e ≢ Memory → job_in (view value.now) ≡ Err e) }
 {
-    if !has_options(value) {
-        return Ok(None);
-    }
-    match read_job_written(alloc, value)? {
-        Some(draft) => job_unless_refused(alloc, &draft),
-        None => Ok(None),
-    }
+    let draft = read_job_written(alloc, value)?;
+    job_from(alloc, &draft)
 }

@@ -87,7 +87,8 @@ fn cell_values(alloc: Global, cells: &[Cell]) -> Result<Value, AllocError>
     Ok(Value::Array(values))
 }
 
-fn port_values(alloc: Global, ports: &[Port]) -> Result<Value, AllocError>
+/// The ports of a document, as an array of objects.
+pub fn port_values(alloc: Global, ports: &[Port]) -> Result<Value, AllocError>
     ensures { IfOk result (λ v. view v ≡ array_of (map port_value ports.now)) }
 {
     let mut values = Vec::new(alloc);
@@ -97,7 +98,8 @@ fn port_values(alloc: Global, ports: &[Port]) -> Result<Value, AllocError>
     Ok(Value::Array(values))
 }
 
-fn word_values(alloc: Global, words: &[FlowWord]) -> Result<Value, AllocError>
+/// The flows of a document, as an array of texts.
+pub fn word_values(alloc: Global, words: &[FlowWord]) -> Result<Value, AllocError>
     ensures { IfOk result (λ v. view v ≡ array_of (map word_value words.now)) }
 {
     let mut values = Vec::new(alloc);
@@ -105,6 +107,14 @@ fn word_values(alloc: Global, words: &[FlowWord]) -> Result<Value, AllocError>
         values.push(word_value(alloc, word)?)?;
     }
     Ok(Value::Array(values))
+}
+
+/// The options of a document: the forbidden cells alone.
+pub fn options_value(alloc: Global, forbidden: &[Cell]) -> Result<Value, AllocError>
+    ensures { IfOk result (λ v. view v ≡ options_value forbidden.now) }
+{
+    let cells = cell_values(alloc, forbidden)?;
+    json!(in alloc; {"forbidden_cubes": cells})
 }
 
 fn box_values(alloc: Global, spec: &Spec) -> Result<Value, AllocError>
@@ -124,7 +134,7 @@ fn spec_value(alloc: Global, spec: &Spec) -> Result<Value, AllocError>
 {
     let size = spec.size();
     let boxes = box_values(alloc, spec)?;
-    let forbidden = cell_values(alloc, spec.forbidden())?;
+    let options = options_value(alloc, spec.forbidden())?;
     let ports = port_values(alloc, spec.ports())?;
     let flows = word_values(alloc, spec.flows())?;
     json!(in alloc; {
@@ -132,7 +142,7 @@ fn spec_value(alloc: Global, spec: &Spec) -> Result<Value, AllocError>
         "max_i": size.i,
         "max_j": size.j,
         "max_k": size.k,
-        "optional": {"forbidden_cubes": forbidden},
+        "optional": options,
         "ports": ports,
         "stabilizers": flows
     })

@@ -1,5 +1,1 @@
 pub mod BreachLemmas
-pub mod CountLemmas
-pub mod AllLemmas
-pub mod MarkLemmas
-pub mod ShownLemmas

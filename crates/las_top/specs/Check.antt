@@ -1,9 +1,11 @@
 -- What `check` answers to a document.
-use Rattle.std.specs.Prelude.{ℕ, List, ◌++◌, codes, Option, Some, None}
+use Rattle.std.specs.Prelude.{ℕ, List, ◌++◌, codes, Option, Some, None, Result, Ok, Err}
 use Rattle.std.specs.Fmt.{decimal}
 use Rattle.grid_box.specs.declared.Broken.{Broken}
 use Rattle.grid_box.specs.Breaches.{breach}
-use Rattle.las_top.specs.Drawn.{Drawn, drawn_of}
+use Rattle.lasre_codec.specs.declared.refusal.LasreRefused.{LasreRefused}
+use Rattle.lasre_codec.specs.Documents.{Lasre, lasre_of}
+use Rattle.lasre_codec.specs.Texts.{refusal_text}
 use Rattle.las_top.specs.Answers.{Answer, yes_with, no_with, refused}
 
 -- the line of a rule that is broken
@@ -15,11 +17,15 @@ abbrev pub answer_to_breach : Option Broken → Answer
 answer_to_breach None = yes_with (codes "valid\n")
 answer_to_breach (Some broken) = no_with (broken_line broken)
 
--- what is answered to what a document gives
-abbrev pub answer_to_drawn : Option Drawn → Answer
-answer_to_drawn None = refused (codes "form")
-answer_to_drawn (Some x) = answer_to_breach (breach x.task x.drawing)
+-- the refusal of a document of a diagram
+abbrev pub refused_lasre : LasreRefused → Answer
+refused_lasre refusal = refused (codes "lasre " ++ refusal_text refusal)
+
+-- what is answered to what a document gives. Sheets are not looked at
+abbrev pub answer_to_lasre : Result Lasre LasreRefused → Answer
+answer_to_lasre (Ok l) = answer_to_breach (breach l.task l.drawing)
+answer_to_lasre (Err refusal) = refused_lasre refusal
 
 -- what `check` answers to a document: the first breach of all rules
 abbrev pub check_answer : List ℕ → Answer
-check_answer bytes = answer_to_drawn (drawn_of bytes)
+check_answer bytes = answer_to_lasre (lasre_of bytes)

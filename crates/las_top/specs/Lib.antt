@@ -1,5 +1,3 @@
-pub mod Drawn
-pub mod Entries
 pub mod Answers
 pub mod Check
 pub mod Spec

@@ -4,11 +4,11 @@ ghost use Rattle.grid_box.specs.Breaches.{breach};
 ghost use Rattle.las_top.specs.Check.{check_answer};
 ghost use Rattle.las_top.specs.Findings.{answer_by};
 
-use crate::drawn::read_drawn;
 use crate::finding::Finding;
 use colour_rules::first_bad_colour;
 use grid_box::{Broken, Diagram};
 use las_spec::Job;
+use lasre_codec::{LasreRefused, read_lasre};
 use pipe_rules::first_broken;
 use std::alloc::{AllocError, Global};
 
@@ -28,11 +28,12 @@ fn first_breach(job: &Job, diagram: &Diagram) -> Option<Broken>
 pub(crate) fn check(alloc: Global, bytes: &[u8]) -> Result<Finding, AllocError>
     ensures { IfOk result (λ f. answer_by f ≡ check_answer bytes.now) }
 {
-    match read_drawn(alloc, bytes)? {
-        Some(document) => match first_breach(&document.job, &document.diagram) {
+    match read_lasre(alloc, bytes) {
+        Ok(document) => match first_breach(&document.job, &document.diagram) {
             Some(broken) => Ok(Finding::Breach(broken)),
             None => Ok(Finding::Valid),
         },
-        None => Ok(Finding::Form),
+        Err(LasreRefused::Memory) => Err(AllocError),
+        Err(refusal) => Ok(Finding::NoLasre(refusal)),
     }
 }

@@ -3,6 +3,7 @@ ghost use Rattle.std.specs.Prelude.{◌≡◌, ◌≢◌, ◌⊎◌, ◌≤◌, 
 ghost use Rattle.std.specs.Io.KnownBytes.{Appends};
 ghost use Rattle.las_io.specs.Counts.{Rose};
 ghost use Rattle.las_spec.specs.Texts.{refusal_text};
+ghost use Rattle.lasre_codec.specs.Texts as lasre_text;
 ghost use Rattle.las_top.specs.Answers.{IsAnswer};
 ghost use Rattle.las_top.specs.Check.{broken_line};
 ghost use Rattle.las_top.specs.Findings.{answer_by};
@@ -12,6 +13,7 @@ use crate::run::Status;
 use grid_box::Broken;
 use las_io::{Sink, WriteRefused, write_all};
 use las_spec::SpecRefused;
+use lasre_codec::LasreRefused;
 use std::alloc::{AllocError, Global};
 
 /// What is found of the words and the document, in the order in which it is looked for.
@@ -19,7 +21,7 @@ use std::alloc::{AllocError, Global};
 pub(crate) enum Finding {
     Words,
     TooLong,
-    Form,
+    NoLasre(LasreRefused),
     Breach(Broken),
     Valid,
     NoSpec(SpecRefused),
@@ -38,6 +40,12 @@ fn refused_text(alloc: Global, refusal: SpecRefused) -> Result<String, AllocErro
     ensures { IfOk result (λ text. string_bytes text ≡ codes "refused: " ++ (refusal_text refusal ++ codes "\n")) }
 {
     format!(in alloc; "refused: {refusal}\n")
+}
+
+fn lasre_refused_text(alloc: Global, refusal: LasreRefused) -> Result<String, AllocError>
+    ensures { IfOk result (λ text. string_bytes text ≡ codes "refused: " ++ ((codes "lasre " ++ lasre_text.refusal_text refusal) ++ codes "\n")) }
+{
+    format!(in alloc; "refused: lasre {refusal}\n")
 }
 
 // Writes a text, and answers the status where all of it stands.
@@ -69,7 +77,10 @@ pub(crate) fn tell<K: Sink, E: Sink>(
     match finding {
         Finding::Words => say(err, b"refused: words\n", Status::Refused),
         Finding::TooLong => say(err, b"refused: too long\n", Status::Refused),
-        Finding::Form => say(err, b"refused: form\n", Status::Refused),
+        Finding::NoLasre(refusal) => match lasre_refused_text(alloc, refusal) {
+            Ok(text) => say(err, text.as_bytes(), Status::Refused),
+            Err(AllocError) => Status::Memory,
+        },
         Finding::Breach(broken) => match broken_text(alloc, broken) {
             Ok(text) => say(err, text.as_bytes(), Status::No),
             Err(AllocError) => Status::Memory,

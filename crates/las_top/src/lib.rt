@@ -3,7 +3,6 @@
 #![tactic(auto)]
 
 mod check;
-mod drawn;
 mod finding;
 mod run;
 mod spec;

@@ -96,7 +96,7 @@ fn a_port_may_stand_beyond_a_far_face(rt: HostRuntime) -> Result<(), Fail> {
         check_says(
             &rt,
             &document(rt.alloc(), UNIT, &ports, ones, PLAIN, "")?,
-            "refused: form",
+            "refused: lasre port 1 place",
         )?;
     }
     Ok(())
@@ -302,25 +302,6 @@ fn every_flip_of_one_colour_is_seen(rt: HostRuntime) -> Result<(), Fail> {
             &document(alloc, size, &ports, JUNCTIONS, turned, "")?,
             want,
         )?;
-    }
-    Ok(())
-}
-
-#[test]
-fn colours_and_forbidden_cells_of_a_straight_wire(rt: HostRuntime) -> Result<(), Fail> {
-    let alloc = rt.alloc();
-    let ports = [BOTTOM, ((0, 0, 2), "-K", "J")];
-    let wire: [&[Place]; 4] = [&[], &[], &[], &[O, (0, 0, 1)]];
-    let both: &[Place] = &[O, (0, 0, 1)];
-    let forbidden = ",\"optional\":{\"forbidden_cubes\":[[0,0,1]]}";
-    for (colours, more, want) in [
-        (PLAIN, "", "valid"),
-        ([&[], &[], &[], &[O]], "", "broken V7 0 0 1"),
-        ([&[], &[], both, both], "", "broken V8 0 0 0"),
-        (PLAIN, forbidden, "broken V3 0 0 1"),
-    ] {
-        let text = document(alloc, (1, 1, 2), &ports, wire, colours, more)?;
-        check_says(&rt, &text, want)?;
     }
     Ok(())
 }

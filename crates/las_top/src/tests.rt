@@ -10,7 +10,7 @@ const WIRE: &str =
 
 // A port without its pipe.
 const NO_PIPE: &str =
-    "{\"ExistI\":[[[0]]],\"ExistJ\":[[[0]]],\"ExistK\":[[[0]]],\"NodeY\":[[[0]]],\"max_i\":1,\"max_j\":1,\"max_k\":1,\"ports\":[{\"direction\":\"-K\",\"location\":[0,0,1],\"z_basis_direction\":\"J\"}],\"ColorI\":[[[0]]],\"ColorJ\":[[[0]]],\"ColorKM\":[[[0]]],\"ColorKP\":[[[0]]],\"stabilizers\":[\"Z\"]}";
+    "{\"ExistI\":[[[0]]],\"ExistJ\":[[[0]]],\"ExistK\":[[[0]]],\"NodeY\":[[[0]]],\"max_i\":1,\"max_j\":1,\"max_k\":1,\"ports\":[{\"direction\":\"-K\",\"location\":[0,0,1],\"z_basis_direction\":\"J\"}],\"ColorI\":[[[0]]],\"ColorJ\":[[[0]]],\"ColorKM\":[[[0]]],\"ColorKP\":[[[0]]],\"CorrIJ\":[[[[0]]]],\"CorrIK\":[[[[0]]]],\"CorrJI\":[[[[0]]]],\"CorrJK\":[[[[0]]]],\"CorrKI\":[[[[0]]]],\"CorrKJ\":[[[[0]]]],\"stabilizers\":[\"Z\"]}";
 
 const MOST: usize = 4_194_304;
 
@@ -58,7 +58,7 @@ fn a_document_cut_short_is_refused(rt: HostRuntime) -> Result<(), Fail> {
             &rt,
             &["check"],
             &bytes[..length],
-            (Status::Refused, "", "refused: form\n"),
+            (Status::Refused, "", "refused: lasre not json\n"),
         )?;
     }
     let text = &bytes[..bytes.len().saturating_sub(1)];

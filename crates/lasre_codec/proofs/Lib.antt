@@ -1,0 +1,12 @@
+pub mod GridLemmas
+pub mod ShownLemmas
+pub mod SheetLemmas
+pub mod ValueLemmas
+pub mod TextLemmas
+pub mod KeptLemmas
+pub mod MarkLemmas
+pub mod BuildLemmas
+pub mod PutLemmas
+pub mod BitLemmas
+pub mod ReadLemmas
+pub mod WriteLemmas
