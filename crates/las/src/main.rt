@@ -1,7 +1,7 @@
 // The program `las`: it hands its words and the standard streams to the top call.
 #![tactic(auto)]
 
-use las_io::{StdSink, StdSource, Stream};
+use las_io::{DirShelf, StdSink, StdSource, Stream};
 use las_top::{Status, run_las};
 use std::env;
 use std::io::ErrorKind;
@@ -22,5 +22,9 @@ fn main(rt: HostRuntime) -> ExitCode {
     let mut src = StdSource::new(rt.stdin());
     let mut out = StdSink::new(rt.stdout(), rt.stderr(), Stream::Out);
     let mut err = StdSink::new(rt.stdout(), rt.stderr(), Stream::Err);
-    ExitCode::from(run_las(alloc, &words, &mut src, &mut out, &mut err).number())
+    let Ok(mut shelf) = DirShelf::new(alloc, &rt, ".") else {
+        return ExitCode::from(Status::Memory.number());
+    };
+    let status = run_las(alloc, &words, &mut src, &mut out, &mut err, &mut shelf);
+    ExitCode::from(status.number())
 }

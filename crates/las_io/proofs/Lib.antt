@@ -1,2 +1,4 @@
+pub mod Fetched
 pub mod Given
 pub mod Pieces
+pub mod Places

@@ -1,4 +1,6 @@
 pub mod Counts
 pub mod Moves
+pub mod Names
 pub mod Scripts
+pub mod Shelves
 pub mod Streams

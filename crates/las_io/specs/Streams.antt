@@ -1,5 +1,5 @@
--- The standard streams, as contracts see them.
-use Rattle.std.specs.Prelude.{ℕ}
+-- The standard streams and a folder, as contracts see them.
+use Rattle.std.specs.Prelude.{ℕ, List, Option}
 use Rattle.las_io.specs.Counts.{count_after}
 use Rattle.las_io.specs.declared.std_sink.Stream.{Stream}
 
@@ -24,3 +24,13 @@ input_after_fault s = record s { faults = count_after s.faults 1 }
 -- the sink after a write that failed
 abbrev pub output_after_fault : StreamSink → StreamSink
 output_after_fault s = record s { faults = count_after s.faults 1 }
+
+-- a folder: the name of the file that is begun, how many bytes its fetches have given, and its faults
+pub record FolderShelf : Type 0 where
+  pub begun : Option (List ℕ)
+  pub given : ℕ
+  pub faults : ℕ
+
+-- the folder after a call that failed
+abbrev pub folder_after_fault : FolderShelf → FolderShelf
+folder_after_fault s = record s { faults = count_after s.faults 1 }

@@ -1,4 +1,9 @@
+ghost use Rattle.std.specs.Prelude.{◌≡◌, None, IfOk};
+
 use super::*;
+use std::alloc::{AllocError, Global};
+use std::fs;
+use std::os::unix::fs::symlink;
 use std::test::Fail;
 
 const FIVE: [u8; 5] = [1, 2, 3, 4, 5];
@@ -88,5 +93,186 @@ fn standard_streams_take_lines(rt: HostRuntime) -> Result<(), Fail> {
         let mut sink = StdSink::new(rt.stdout(), rt.stderr(), stream);
         write_all(&mut sink, b"a line\n")?;
     }
+    Ok(())
+}
+
+#[test]
+fn names_are_lawful_by_their_characters(rt: HostRuntime) -> Result<(), Fail> {
+    let longest = "a".repeat(rt.alloc(), 64)?;
+    let too_long = "a".repeat(rt.alloc(), 65)?;
+    for (name, lawful) in [
+        ("a", true),
+        ("7", true),
+        ("las-1x1x1.Log_2", true),
+        (longest.as_str(), true),
+        (too_long.as_str(), false),
+        ("", false),
+        ("a/b", false),
+        ("..", false),
+        (".log", false),
+        ("-a", false),
+        ("_a", false),
+        ("a b", false),
+        ("aé", false),
+        ("a\n", false),
+    ] {
+        assert_eq!(rt; is_lawful_name(name), lawful, "at {name}");
+    }
+    Ok(())
+}
+
+// A shelf with one file.
+fn shelf_with(alloc: Global, bytes: Vec<u8>, fails: Vec<u64>) -> Result<MemShelf, AllocError>
+    ensures { IfOk result (λ s. s.begun ≡ None) }
+{
+    let name = String::from_str(alloc, "kept")?;
+    let mut files = Vec::new(alloc);
+    files.push(NamedFile::new(name, bytes))?;
+    Ok(MemShelf::new(alloc, files, fails))
+}
+
+fn write_files(shelf: &mut MemShelf) -> Result<(), IoBad>
+    requires { shelf.old.begun ≡ None }
+{
+    shelf.begin("log")?;
+    shelf.append(b"a")?;
+    shelf.append(b"b")?;
+    shelf.finish()?;
+    shelf.begin("kept")?;
+    shelf.append(b"c")
+}
+
+#[test]
+fn files_are_written_up_to_the_call_that_fails(rt: HostRuntime) -> Result<(), Fail> {
+    let alloc = rt.alloc();
+    // The call that fails, what then stands under the two names, whether a file is begun, the calls.
+    for (fails, log, kept, begun, calls) in [
+        (0, "none", "old", false, 1),
+        (1, "", "old", true, 2),
+        (2, "a", "old", true, 3),
+        (3, "ab", "old", false, 4),
+        (4, "ab", "old", false, 5),
+        (5, "ab", "", true, 6),
+        (6, "ab", "c", true, 6),
+    ] {
+        let mut shelf = shelf_with(alloc, b"old".to_vec(alloc)?, [fails].to_vec(alloc)?)?;
+        let fault = if fails < 6 { Some(IoBad::Failed) } else { None };
+        assert_eq!(rt; write_files(&mut shelf).err(), fault, "at {fails}");
+        let none = b"none".as_slice();
+        assert_eq!(rt;
+            shelf.file("log").unwrap_or(none),
+            log.as_bytes(),
+            "at {fails}"
+        );
+        assert_eq!(rt;
+            shelf.file("kept").unwrap_or(none),
+            kept.as_bytes(),
+            "at {fails}"
+        );
+        assert_eq!(rt; shelf.begun(), begun, "at {fails}");
+        assert_eq!(rt; shelf.calls(), calls, "at {fails}");
+    }
+    Ok(())
+}
+
+#[test]
+fn fetches_begin_at_their_place(rt: HostRuntime) -> Result<(), Fail> {
+    let alloc = rt.alloc();
+    // The place, the buffer's length, how many bytes come, the buffer's first byte.
+    for (at, room, count, first) in [
+        (0, 2, 2, 1),
+        (0, 9, 5, 1),
+        (3, 9, 2, 4),
+        (3, 0, 0, 0),
+        (5, 9, 0, 0),
+        (u64::MAX, 9, 0, 0),
+    ] {
+        let mut shelf = shelf_with(alloc, FIVE.to_vec(alloc)?, Vec::new(alloc))?;
+        let mut buf = vec![in alloc; 0u8; room]?;
+        let answer = shelf.fetch("kept", at, &mut buf)?;
+        assert_eq!(rt; answer, Some(count), "at {at}, {room}");
+        let front = buf.first().copied().unwrap_or(0);
+        assert_eq!(rt; front, first, "at {at}, {room}");
+    }
+    Ok(())
+}
+
+#[test]
+fn files_are_fetched_whole_within_the_limit(rt: HostRuntime) -> Result<(), Fail> {
+    let alloc = rt.alloc();
+    let fault = Some(FetchRefused::ShelfFault);
+    let too_long = Some(FetchRefused::TooLong);
+    // The file's length, the limit, the call that fails, the refusal, the calls.
+    for (length, limit, fails, refused, calls) in [
+        (5, 5u32, 9, None, 2),
+        (5, 6, 9, None, 2),
+        (5, 4, 9, too_long, 1),
+        (0, 0, 9, None, 1),
+        (1, 0, 9, too_long, 1),
+        (70_000, 70_000, 9, None, 3),
+        (70_000, 69_999, 9, too_long, 2),
+        (5, 5, 0, fault, 1),
+        (5, 5, 1, fault, 2),
+        (70_000, 70_000, 2, fault, 3),
+    ] {
+        let limit = limit as usize;
+        let bytes = vec![in alloc; 7u8; length]?;
+        let mut shelf = shelf_with(alloc, bytes, [fails].to_vec(alloc)?)?;
+        match fetch_all(alloc, &mut shelf, "kept", limit) {
+            Ok(file) => {
+                assert_eq!(rt;
+                    file.map(|all| all.len()),
+                    Some(length),
+                    "at {length}, {limit}"
+                );
+                assert_eq!(rt; refused, None, "at {length}, {limit}");
+            }
+            Err(error) => assert_eq!(rt; Some(error), refused, "at {length}, {limit}"),
+        }
+        assert_eq!(rt; shelf.calls(), calls, "at {length}, {limit}, {fails}");
+        assert!(rt;
+            fetch_all(alloc, &mut shelf, "other", limit)?.is_none(),
+            "at {fails}"
+        );
+    }
+    Ok(())
+}
+
+// Writes the file in two pieces, and fetches it.
+fn is_written<H: Shelf>(alloc: Global, shelf: &mut H, text: &[u8]) -> Result<bool, FetchRefused>
+    requires { H.begun_name shelf.old ≡ None }
+    ensures { IfOk result (λ _. H.begun_name shelf.new ≡ None) }
+{
+    let (front, end) = text.split_at(text.len() / 2);
+    let fault = FetchRefused::ShelfFault;
+    shelf.begin("log").map_err(|_| fault)?;
+    let begun = shelf.begun();
+    shelf.append(front).map_err(|_| fault)?;
+    shelf.append(end).map_err(|_| fault)?;
+    shelf.finish().map_err(|_| fault)?;
+    let file = fetch_all(alloc, shelf, "log", 100)?;
+    Ok(begun && file.is_some_and(|all| all.as_slice() == text))
+}
+
+#[test]
+fn a_folder_serves_as_a_shelf(rt: HostRuntime) -> Result<(), Fail> {
+    let alloc = rt.alloc();
+    fs::create_dir(&rt, "shelf")?;
+    fs::create_dir(&rt, "shelf/folder")?;
+    symlink(&rt, "circle", "shelf/circle")?;
+    let mut shelf = DirShelf::new(alloc, &rt, "shelf")?;
+    assert!(rt; is_written(alloc, &mut shelf, b"old and longer")?);
+    assert!(rt; is_written(alloc, &mut shelf, b"abcde")?);
+    let mut buf = [0u8; 9];
+    assert_eq!(rt; shelf.fetch("log", 3, &mut buf)?, Some(2));
+    assert_eq!(rt; &buf[..2], b"de".as_slice());
+    assert_eq!(rt; shelf.fetch("log", 5, &mut buf)?, Some(0));
+    assert_eq!(rt; shelf.fetch("other", 0, &mut buf)?, None);
+    // A folder, and a name that leads to itself, cannot be read.
+    let fault = Some(IoBad::Failed);
+    assert_eq!(rt; shelf.fetch("folder", 0, &mut buf).err(), fault);
+    assert_eq!(rt; shelf.fetch("circle", 0, &mut buf).err(), fault);
+    assert_eq!(rt; shelf.begin("folder").err(), fault);
+    fs::remove_dir_all(&rt, "shelf")?;
     Ok(())
 }

@@ -1,7 +1,7 @@
 -- What a run answers: its status, and all that it says.
 use Rattle.std.specs.Prelude.{ℕ, List, [], ◌++◌, codes}
 use Rattle.las_top.specs.declared.run.Status.{Status}
-use Rattle.las_top.specs.declared.run.Status.TheVariants.{Good, No, Refused, ReadFault, WriteFault, Memory}
+use Rattle.las_top.specs.declared.run.Status.TheVariants.{Good, No, Refused, ReadFault, WriteFault, ShelfFault, Memory}
 
 -- an answer: the status, and all that goes to standard output and to standard error
 pub record Answer : Type 0 where
@@ -17,14 +17,19 @@ yes_with lines = record { status = Good; out = lines; err = [] }
 abbrev pub no_with : List ℕ → Answer
 no_with lines = record { status = No; out = []; err = lines }
 
+-- the line of a refusal, with its reason
+abbrev pub refused_line : List ℕ → List ℕ
+refused_line reason = codes "refused: " ++ (reason ++ codes "\n")
+
 -- a refusal, with its reason
 abbrev pub refused : List ℕ → Answer
-refused reason = record { status = Refused; out = []; err = codes "refused: " ++ (reason ++ codes "\n") }
+refused reason = record { status = Refused; out = []; err = refused_line reason }
 
 -- the status is that of an answer: no fault, and no want of memory
 abbrev pub IsAnswer : Status → Type 0
 IsAnswer ReadFault = ⊥
 IsAnswer WriteFault = ⊥
+IsAnswer ShelfFault = ⊥
 IsAnswer Memory = ⊥
 IsAnswer _ = Unit {0}
 
@@ -35,4 +40,5 @@ number_of No = 1
 number_of Refused = 2
 number_of ReadFault = 5
 number_of WriteFault = 6
+number_of ShelfFault = 7
 number_of Memory = 9

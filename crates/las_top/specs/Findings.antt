@@ -1,17 +1,30 @@
 -- What is found, as the code has it, and the answer that it gives.
-use Rattle.std.specs.Prelude.{codes}
-use Rattle.las_top.specs.declared.finding.Finding.{Finding}
-use Rattle.las_top.specs.declared.finding.Finding.TheVariants.{Words, TooLong, NoLasre, Breach, Valid, NoSpec, Text}
-use Rattle.las_top.specs.Answers.{Answer, yes_with, no_with, refused}
+use Rattle.std.specs.Prelude.{ℕ, List, ◌++◌, codes, string_bytes}
 use Rattle.las_spec.specs.Texts.{refusal_text}
-use Rattle.las_top.specs.Check.{broken_line, refused_lasre}
+use Rattle.lasre_codec.specs.Texts as lasre
+use Rattle.las_top.specs.declared.finding.Finding.{Finding}
+use Rattle.las_top.specs.declared.finding.Finding.TheVariants.{Refused, Breach, Valid, OtherJob, Unserved, Solves, Text}
+use Rattle.las_top.specs.declared.finding.Refusal.{Refusal}
+use Rattle.las_top.specs.declared.finding.Refusal.TheVariants.{Words, TooLong, Spec, NoFile, LasreTooLong, Lasre}
+use Rattle.las_top.specs.Answers.{Answer, yes_with, no_with, refused}
+use Rattle.las_top.specs.Audit.{flow_line}
+use Rattle.las_top.specs.Check.{broken_line}
+
+-- the reason of a refusal
+abbrev pub reason_by : Refusal → List ℕ
+reason_by Words = codes "words"
+reason_by TooLong = codes "too long"
+reason_by (Spec refusal) = refusal_text refusal
+reason_by (NoFile name) = codes "no file " ++ string_bytes name
+reason_by LasreTooLong = codes "lasre too long"
+reason_by (Lasre refusal) = codes "lasre " ++ lasre.refusal_text refusal
 
 -- the answer that a finding gives
 abbrev pub answer_by : Finding → Answer
-answer_by Words = refused (codes "words")
-answer_by TooLong = refused (codes "too long")
-answer_by (NoLasre refusal) = refused_lasre refusal
+answer_by (Refused refusal) = refused (reason_by refusal)
 answer_by (Breach broken) = no_with (broken_line broken)
 answer_by Valid = yes_with (codes "valid\n")
-answer_by (NoSpec refusal) = refused (refusal_text refusal)
+answer_by OtherJob = no_with (codes "other job\n")
+answer_by (Unserved flow broken) = no_with (flow_line flow broken)
+answer_by Solves = yes_with (codes "solves\n")
 answer_by (Text text) = yes_with text.items

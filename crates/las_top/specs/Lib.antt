@@ -3,3 +3,5 @@ pub mod Check
 pub mod Spec
 pub mod Findings
 pub mod Runs
+pub mod Audit
+pub mod Commands

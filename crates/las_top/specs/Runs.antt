@@ -1,32 +1,89 @@
--- What a run is answered, by its words and by what came from its source.
-use Rattle.std.specs.Prelude.{◌≡◌, ◌⊎◌, ℕ, ◌+◌, ◌≤◌, List, [], ◌∷◌, length, codes, map, Option, Some, None, String, string_bytes, bytes_eq, if◌then◌else◌}
+-- What a run is answered, by its words, by what came from its source, and by the shelf.
+use Rattle.std.specs.Prelude.{◌≡◌, ◌⊎◌, ℕ, ◌+◌, ◌≤◌, Bool, true, false, ◌&&◌, List, [], ◌∷◌, ◌++◌, length, codes, map, Option, Some, None, IfSome, Result, Ok, Err, String, string_bytes, bytes_eq, if◌then◌else◌}
 use Rattle.std.specs.Io.KnownBytes.{Appends}
 use Rattle.std.specs.declared.alloc.Global.{Global}
 use Rattle.las_io.specs.Moves.{GivesAll, GivesCount, IsAllLeft}
-use Rattle.las_top.specs.declared.run.Command.{Command}
-use Rattle.las_top.specs.declared.run.Command.TheVariants.{Check, Spec}
+use Rattle.las_io.specs.Names.{is_lawful_name}
+use Rattle.las_io.specs.Shelves.{Fetches, FetchesCount, File, file_of}
+use Rattle.las_spec.specs.declared.refusal.SpecRefused.{SpecRefused}
+use Rattle.las_spec.specs.Briefs.{Brief, spec_of}
+use Rattle.las_spec.specs.Texts.{refusal_text}
 use Rattle.las_top.specs.declared.run.Status.{Status}
 use Rattle.las_top.specs.Answers.{Answer, refused}
+use Rattle.las_top.specs.Audit.{audit_answer}
 use Rattle.las_top.specs.Check.{check_answer}
 use Rattle.las_top.specs.Spec.{spec_answer}
 
--- the command of a list of words, where there is one
-abbrev pub command_by : List (List ℕ) → Option Command
-command_by (word ∷ []) = if bytes_eq word (codes "check") then Some Check else (if bytes_eq word (codes "spec") then Some Spec else None)
-command_by _ = None
+-- ---- words
 
--- the command of the words after the program's name
-abbrev pub command_of : List (String Global) → Option Command
-command_of words = command_by (map string_bytes words)
+-- what the words ask for
+pub data Asked : Type 0 where
+  Check : Asked
+  Spec : Asked
+  Audit : List ℕ → Asked
 
--- what a command answers to a document
-abbrev pub answer_of : Command → List ℕ → Answer
-answer_of Check = check_answer
-answer_of Spec = spec_answer
+-- what is asked for by one word, and by two
+abbrev pub asked_by_one : List ℕ → Option Asked
+asked_by_one word = if bytes_eq word (codes "check") then Some Check else (if bytes_eq word (codes "spec") then Some Spec else None)
+
+abbrev pub asked_by_two : List ℕ → List ℕ → Option Asked
+asked_by_two word name = if bytes_eq word (codes "audit") && is_lawful_name name then Some (Audit name) else None
+
+-- what a list of words asks for, where it is a command
+abbrev pub asked_by : List (List ℕ) → Option Asked
+asked_by (word ∷ []) = asked_by_one word
+asked_by (word ∷ name ∷ []) = asked_by_two word name
+asked_by _ = None
+
+-- what the words after the program's name ask for
+abbrev pub asked_of : List (String Global) → Option Asked
+asked_of words = asked_by (map string_bytes words)
 
 -- the most bytes of a document
 abbrev pub most_bytes : ℕ
 most_bytes = 4194304
+
+-- ---- the shelf
+
+-- of a shelf: its files, where it tells them; whether it finds a name; how many bytes its fetches have given
+module _ {H : Type 0} (files : H → Option (List File)) (finds : H → List ℕ → Bool → Type 0) (fetched : H → ℕ) where
+  -- there is no file of this name
+  pub record IsNoFile (name : List ℕ) (before after : H) (answer : Answer) : Type 0 where
+    pub absent : finds before name false
+    pub told : IfSome (files before) (λ fs. file_of fs name ≡ None)
+    pub answer_is : answer ≡ refused (codes "no file " ++ name)
+
+  -- one byte more than a document may have came of the file
+  pub record IsLongFile (name : List ℕ) (before after : H) (answer : Answer) : Type 0 where
+    pub present : finds before name true
+    pub came : FetchesCount files fetched name before after (most_bytes + 1)
+    pub answer_is : answer ≡ refused (codes "lasre too long")
+
+  -- these bytes came, all that the file has, and this is what `audit` answers to them
+  pub record AnswersBytes (b : Brief) (name : List ℕ) (before after : H) (answer : Answer) : Type 0 where
+    pub bytes : List ℕ
+    pub present : finds before name true
+    pub came : Fetches files fetched name before after bytes
+    pub told : IfSome (files before) (λ fs. file_of fs name ≡ Some bytes)
+    pub within : length bytes ≤ most_bytes
+    pub answer_is : answer ≡ audit_answer b bytes
+
+  -- what is answered of a file, for a specification
+  abbrev pub AnswersFile : Brief → List ℕ → H → H → Answer → Type 0
+  AnswersFile b name before after answer = IsNoFile name before after answer ⊎ (IsLongFile name before after answer ⊎ AnswersBytes b name before after answer)
+
+  -- what `audit` answers to what a document of a specification gives: the shelf is asked where this is not refused
+  abbrev pub AnswersSpec : List ℕ → Result Brief SpecRefused → H → H → Answer → Type 0
+  AnswersSpec name (Err refusal) before after answer = (answer ≡ refused (refusal_text refusal)) × (after ≡ before)
+  AnswersSpec name (Ok b) before after answer = AnswersFile b name before after answer
+
+  -- what is answered to the bytes of the source
+  abbrev pub AnswersAsked : Asked → H → H → List ℕ → Answer → Type 0
+  AnswersAsked Check before after bytes answer = (answer ≡ check_answer bytes) × (after ≡ before)
+  AnswersAsked Spec before after bytes answer = (answer ≡ spec_answer bytes) × (after ≡ before)
+  AnswersAsked (Audit name) before after bytes answer = AnswersSpec name (spec_of bytes) before after answer
+
+-- ---- the source
 
 -- of a source: the bytes left, where it tells them, and how many it has given
 module _ {S : Type 0} (left : S → Option (List ℕ)) (given : S → ℕ) where
@@ -35,22 +92,27 @@ module _ {S : Type 0} (left : S → Option (List ℕ)) (given : S → ℕ) where
     pub came : GivesCount left given before after (most_bytes + 1)
     pub answer_is : answer ≡ refused (codes "too long")
 
-  -- these bytes came, all that the source had, and this is what the command answers to them
-  pub record AnswersDocument (command : Command) (before after : S) (answer : Answer) : Type 0 where
+  -- these bytes came, all that the source had, and they are answered so
+  pub record AnswersDocument (answers : List ℕ → Answer → Type 0) (before after : S) (answer : Answer) : Type 0 where
     pub bytes : List ℕ
     pub came : GivesAll left given before after bytes
     pub all : IsAllLeft (left before) bytes
     pub within : length bytes ≤ most_bytes
-    pub answer_is : answer ≡ answer_of command bytes
+    pub answered : answers bytes answer
 
-  -- the answer to a command, by what came from the source
-  abbrev pub AnswersCommand : Command → S → S → Answer → Type 0
-  AnswersCommand command before after answer = IsTooLong before after answer ⊎ AnswersDocument command before after answer
+-- ---- the run
+
+-- of a source and a shelf
+module _ {S H : Type 0} (left : S → Option (List ℕ)) (given : S → ℕ) (files : H → Option (List File)) (finds : H → List ℕ → Bool → Type 0) (fetched : H → ℕ) where
+  -- the answer to what is asked, by what came from the source
+  abbrev pub AnswersCommand : Asked → S → S → H → H → Answer → Type 0
+  AnswersCommand asked before after shelf shelf' answer =
+      (IsTooLong left given before after answer × (shelf' ≡ shelf)) ⊎ AnswersDocument left given (AnswersAsked files finds fetched asked shelf shelf') before after answer
 
   -- the answer to words: those that are no command are refused, and nothing is read
-  abbrev pub AnswersWords : Option Command → S → S → Answer → Type 0
-  AnswersWords None before after answer = (answer ≡ refused (codes "words")) × (after ≡ before)
-  AnswersWords (Some command) before after answer = AnswersCommand command before after answer
+  abbrev pub AnswersWords : Option Asked → S → S → H → H → Answer → Type 0
+  AnswersWords None before after shelf shelf' answer = (answer ≡ refused (codes "words")) × (after ≡ before) × (shelf' ≡ shelf)
+  AnswersWords (Some asked) before after shelf shelf' answer = AnswersCommand asked before after shelf shelf' answer
 
 -- the status is that of the answer, and it was said: all of it, and nothing else
 pub record Says (answer : Answer) (status : Status) (out out' err err' : Option (List ℕ)) : Type 0 where
@@ -59,7 +121,7 @@ pub record Says (answer : Answer) (status : Status) (out out' err err' : Option 
   pub err_grows : Appends err err' answer.err
 
 -- there is an answer to the words and to what came, and it was said
-pub record HasAnswered {S : Type 0} (left : S → Option (List ℕ)) (given : S → ℕ) (words : List (String Global)) (before after : S) (status : Status) (out out' err err' : Option (List ℕ)) : Type 0 where
+pub record HasAnswered {S H : Type 0} (left : S → Option (List ℕ)) (given : S → ℕ) (files : H → Option (List File)) (finds : H → List ℕ → Bool → Type 0) (fetched : H → ℕ) (words : List (String Global)) (before after : S) (shelf shelf' : H) (status : Status) (out out' err err' : Option (List ℕ)) : Type 0 where
   pub answer : Answer
-  pub answers : AnswersWords left given (command_of words) before after answer
+  pub answers : AnswersWords left given files finds fetched (asked_of words) before after shelf shelf' answer
   pub said : Says answer status out out' err err'

@@ -4,7 +4,7 @@ ghost use Rattle.grid_box.specs.Breaches.{breach};
 ghost use Rattle.las_top.specs.Check.{check_answer};
 ghost use Rattle.las_top.specs.Findings.{answer_by};
 
-use crate::finding::Finding;
+use crate::finding::{Finding, Refusal};
 use colour_rules::first_bad_colour;
 use grid_box::{Broken, Diagram};
 use las_spec::Job;
@@ -12,9 +12,9 @@ use lasre_codec::{LasreRefused, read_lasre};
 use pipe_rules::first_broken;
 use std::alloc::{AllocError, Global};
 
-// The first breach of all rules: those of pipes come before those of colours.
+/// The first breach of all rules: those of pipes come before those of colours.
 #[tactic(auto, using(crate::proofs::BreachLemmas::pipes_first))]
-fn first_breach(job: &Job, diagram: &Diagram) -> Option<Broken>
+pub(crate) fn first_breach(job: &Job, diagram: &Diagram) -> Option<Broken>
     requires { diagram.now.size ≡ job.now.size }
     ensures { result ≡ breach job.now diagram.now }
 {
@@ -34,6 +34,6 @@ pub(crate) fn check(alloc: Global, bytes: &[u8]) -> Result<Finding, AllocError>
             None => Ok(Finding::Valid),
         },
         Err(LasreRefused::Memory) => Err(AllocError),
-        Err(refusal) => Ok(Finding::NoLasre(refusal)),
+        Err(refusal) => Ok(Finding::Refused(Refusal::Lasre(refusal))),
     }
 }

@@ -2,6 +2,7 @@
 //! and answers a status. Its contract says what each answer means, over any source and any sinks.
 #![tactic(auto)]
 
+mod audit;
 mod check;
 mod finding;
 mod run;
@@ -9,6 +10,8 @@ mod spec;
 
 pub use run::{Status, run_las};
 
+#[cfg(test)]
+mod audit_tests;
 #[cfg(test)]
 mod form_tests;
 #[cfg(test)]

@@ -3,7 +3,7 @@ ghost use Rattle.std.specs.Prelude.{◌≡◌, IfOk};
 ghost use Rattle.las_top.specs.Findings.{answer_by};
 ghost use Rattle.las_top.specs.Spec.{spec_answer};
 
-use crate::finding::Finding;
+use crate::finding::{Finding, Refusal};
 use las_spec::{SpecRefused, read_spec, spec_text};
 use std::alloc::{AllocError, Global};
 
@@ -14,6 +14,6 @@ pub(crate) fn spec(alloc: Global, bytes: &[u8]) -> Result<Finding, AllocError>
     match read_spec(alloc, bytes) {
         Ok(spec) => Ok(Finding::Text(spec_text(alloc, &spec)?)),
         Err(SpecRefused::Memory) => Err(AllocError),
-        Err(refusal) => Ok(Finding::NoSpec(refusal)),
+        Err(refusal) => Ok(Finding::Refused(Refusal::Spec(refusal))),
     }
 }

@@ -1,5 +1,5 @@
 use crate::{Status, run_las};
-use las_io::{MemSink, MemSource};
+use las_io::{MemShelf, MemSink, MemSource};
 use std::alloc::Global;
 use std::process::Abort;
 use std::test::Fail;
@@ -12,7 +12,8 @@ fn spec_says(rt: &(impl Abort + AllocGlobal), bytes: &[u8], want: &str) -> Resul
     let mut src = MemSource::new(bytes.to_vec(alloc)?, 100_000, Vec::new(alloc));
     let mut out = MemSink::new(alloc, 100, Vec::new(alloc));
     let mut err = MemSink::new(alloc, 100, Vec::new(alloc));
-    let status = run_las(alloc, &words, &mut src, &mut out, &mut err);
+    let mut shelf = MemShelf::new(alloc, Vec::new(alloc), Vec::new(alloc));
+    let status = run_las(alloc, &words, &mut src, &mut out, &mut err, &mut shelf);
     let line = format!(in alloc; "{want}\n")?;
     let (wanted, out_line, err_line) = if want.starts_with("refused: ") {
         (Status::Refused, "", line.as_str())

@@ -1,6 +1,6 @@
 // Documents that tests write, and what `check` says of them.
 use crate::{Status, run_las};
-use las_io::{MemSink, MemSource};
+use las_io::{MemShelf, MemSink, MemSource};
 use std::alloc::Global;
 use std::process::Abort;
 use std::test::Fail;
@@ -99,7 +99,8 @@ pub(crate) fn check_says(
     let mut src = MemSource::new(text.as_bytes().to_vec(alloc)?, 100_000, Vec::new(alloc));
     let mut out = MemSink::new(alloc, 100, Vec::new(alloc));
     let mut err = MemSink::new(alloc, 100, Vec::new(alloc));
-    let status = run_las(alloc, &words, &mut src, &mut out, &mut err);
+    let mut shelf = MemShelf::new(alloc, Vec::new(alloc), Vec::new(alloc));
+    let status = run_las(alloc, &words, &mut src, &mut out, &mut err, &mut shelf);
     let line = format!(in alloc; "{want}\n")?;
     let (wanted, out_line, err_line) = if want == "valid" {
         (Status::Good, line.as_str(), "")

@@ -1,5 +1,5 @@
 use super::*;
-use las_io::{MemSink, MemSource};
+use las_io::{MemShelf, MemSink, MemSource};
 use std::alloc::Global;
 use std::process::Abort;
 use std::test::Fail;
@@ -34,7 +34,8 @@ fn answers(
     let mut src = MemSource::new(bytes.to_vec(alloc)?, 100_000, Vec::new(alloc));
     let mut out = MemSink::new(alloc, 7, Vec::new(alloc));
     let mut err = MemSink::new(alloc, 7, Vec::new(alloc));
-    let status = run_las(alloc, &words, &mut src, &mut out, &mut err);
+    let mut shelf = MemShelf::new(alloc, Vec::new(alloc), Vec::new(alloc));
+    let status = run_las(alloc, &words, &mut src, &mut out, &mut err, &mut shelf);
     assert_eq!(rt; status, want.0);
     assert_eq!(rt; out.bytes(), want.1.as_bytes());
     assert_eq!(rt; err.bytes(), want.2.as_bytes());
@@ -47,7 +48,9 @@ fn words_are_read_first(rt: HostRuntime) -> Result<(), Fail> {
     answers(&rt, &[], WIRE.as_bytes(), refused)?;
     answers(&rt, &["Check"], WIRE.as_bytes(), refused)?;
     answers(&rt, &["check", "check"], WIRE.as_bytes(), refused)?;
-    answers(&rt, &["check", ""], WIRE.as_bytes(), refused)
+    answers(&rt, &["check", ""], WIRE.as_bytes(), refused)?;
+    answers(&rt, &["audit"], WIRE.as_bytes(), refused)?;
+    answers(&rt, &["audit", "a", "b"], WIRE.as_bytes(), refused)
 }
 
 #[test]
@@ -92,7 +95,8 @@ fn faults(
     let mut src = MemSource::new(text.as_bytes().to_vec(alloc)?, 300, fails.0.to_vec(alloc)?);
     let mut out = MemSink::new(alloc, 3, fails.1.to_vec(alloc)?);
     let mut err = MemSink::new(alloc, 10, fails.2.to_vec(alloc)?);
-    let status = run_las(alloc, &words, &mut src, &mut out, &mut err);
+    let mut shelf = MemShelf::new(alloc, Vec::new(alloc), Vec::new(alloc));
+    let status = run_las(alloc, &words, &mut src, &mut out, &mut err, &mut shelf);
     assert_eq!(rt; status, want.0);
     assert_eq!(rt; out.bytes(), want.1.as_bytes());
     assert_eq!(rt; err.bytes(), want.2.as_bytes());
@@ -129,6 +133,7 @@ fn statuses_have_their_numbers(rt: HostRuntime) {
         (Status::Refused, 2),
         (Status::ReadFault, 5),
         (Status::WriteFault, 6),
+        (Status::ShelfFault, 7),
         (Status::Memory, 9),
     ] {
         assert_eq!(rt; status.number(), number);

@@ -1,2 +1,3 @@
 pub mod EndLemmas
 pub mod JoinLemmas
+pub mod ServeLemmas

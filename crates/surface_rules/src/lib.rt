@@ -11,12 +11,14 @@ ghost use Rattle.grid_box.specs.Sheets.{sheet_breach};
 ghost use Rattle.grid_box.specs.Surfaces.{sheets_of};
 ghost use Rattle.surface_rules.specs.Tests.{keeps};
 
+mod laws;
 mod leg_sheets;
 mod tests_at;
 
 use grid_box::{Broken, Diagram, Sheets, first_failing};
 use las_base::Cell;
 use las_spec::Job;
+pub use laws::no_breach_serves;
 use tests_at::{ports_spell, sheets_join, y_sheets_match};
 
 /// A rule of sheets.

@@ -1,0 +1,217 @@
+// The files of one folder, as a shelf that tells no contents.
+ghost use Rattle.std.specs.Prelude.{◌≡◌, ◌<◌, ◌≤◌, ⊤, length, is_some, IsSome, IsTrue, None, Some, IfOk, IfSome, MatchResult, unwrap_or, string_bytes};
+ghost use Rattle.las_io.specs.Counts.{HasFaultCause};
+ghost use Rattle.las_io.specs.Names.{is_lawful_name};
+ghost use Rattle.las_io.specs.Shelves.{FetchCounts, begun_after};
+ghost use Rattle.las_io.specs.Streams.{folder_after_fault};
+
+use crate::stream_fault::StreamFault;
+use crate::{IoBad, Shelf};
+use std::alloc::{AllocError, Global};
+use std::fs::{File, OpenFile};
+use std::io::{ErrorKind, Read, Seek, SeekFrom, Write};
+use std::marker::Model;
+use std::rt::Files;
+
+/// A folder of the system. Its two counts stop at the last value of `u64`.
+#[derive(Drop)]
+pub struct DirShelf<R: Files + Drop> {
+    alloc: Global,
+    system: R,
+    folder: String,
+    begun: Option<Begun<R::File>>,
+    given: u64,
+    faults: u64,
+}
+
+// The file that is begun, and its name.
+#[derive(Drop)]
+struct Begun<F> {
+    file: F,
+    name: String,
+}
+
+impl<R: Files + Drop> Model for DirShelf<R> {
+    ghost use Rattle.std.specs.Prelude.{option_map, string_bytes};
+    ghost use Rattle.las_io.specs.Streams.{FolderShelf};
+
+    ghost Value = { FolderShelf };
+
+    ghost view = { λ s. record {
+      begun = option_map (λ b. string_bytes b.name) s.begun;
+      given = s.given;
+      faults = s.faults;
+    } };
+}
+
+impl<R: Files + Drop> DirShelf<R> {
+    pub fn new(alloc: Global, system: R, folder: &str) -> Result<DirShelf<R>, AllocError>
+        ensures { IfOk result (λ s. s ≡ record { begun = None; given = 0; faults = 0 }) }
+    {
+        let folder = String::from_str(alloc, folder)?;
+        Ok(DirShelf {
+            alloc,
+            system,
+            folder,
+            begun: None,
+            given: 0,
+            faults: 0,
+        })
+    }
+
+    // Where the file of this name stands.
+    fn path_of(&self, name: &str) -> Result<String, AllocError> {
+        let folder = self.folder.as_str();
+        format!(in self.alloc; "{folder}/{name}")
+    }
+
+    fn count_fault(&mut self) -> IoBad
+        ensures is { result ≡ IoBad.Failed }
+        ensures after { self.new ≡ folder_after_fault self.old }
+    {
+        self.faults = self.faults.saturating_add(1);
+        IoBad::Failed
+    }
+
+    fn try_fetch(&self, path: &str, at: u64, buf: &mut [u8]) -> Result<Option<usize>, StreamFault>
+        ensures { IfOk result (λ answer. IfSome answer (λ n. n ≤ length buf.new)) }
+    {
+        let mut file = match File::open(&self.system, path) {
+            Ok(file) => file,
+            Err(error) if error.kind() == ErrorKind::NotFound => return Ok(None),
+            Err(error) => return Err(StreamFault::Stream(error)),
+        };
+        if !file.metadata()?.is_file() {
+            return Err(StreamFault::NoFile);
+        }
+        file.seek(SeekFrom::Start(at))?;
+        let count = read_some(&mut file, buf)?;
+        Ok(Some(count))
+    }
+}
+
+// A read that a signal cut off is tried again.
+fn read_some<F: Read>(file: &mut F, buf: &mut [u8]) -> Result<usize, StreamFault>
+    ensures { IfOk result (λ n. n ≤ length buf.new) }
+{
+    for _ in 0..u64::MAX {
+        match file.read(buf) {
+            Ok(count) => return Ok(count),
+            Err(error) if error.kind() == ErrorKind::Interrupted => {}
+            Err(error) => return Err(StreamFault::Stream(error)),
+        }
+    }
+    Err(StreamFault::Interrupted)
+}
+
+// A write that a signal cut off is tried again.
+fn write_some<F: Write>(file: &mut F, piece: &[u8]) -> Result<usize, StreamFault>
+    ensures bound { IfOk result (λ n. n ≤ length piece.now) }
+    ensures progress { IfOk result (λ n. 0 < length piece.now → 0 < n) }
+{
+    for _ in 0..u64::MAX {
+        match file.write(piece) {
+            Ok(0) if !piece.is_empty() => return Err(StreamFault::NothingTaken),
+            Ok(count) => return Ok(count),
+            Err(error) if error.kind() == ErrorKind::Interrupted => {}
+            Err(error) => return Err(StreamFault::Stream(error)),
+        }
+    }
+    Err(StreamFault::Interrupted)
+}
+
+fn write_whole<F: Write>(file: &mut F, piece: &[u8]) -> Result<(), StreamFault> {
+    let mut done = 0;
+    while done < piece.len() {
+        done += write_some(file, &piece[done..])?;
+    }
+    Ok(())
+}
+
+impl<R: Files + Drop> Shelf for DirShelf<R> {
+    ghost files = { λ _. None };
+
+    ghost begun_name = { λ s. s.begun };
+
+    ghost finds = { λ _ _ _. ⊤ };
+
+    ghost given = { λ s. s.given };
+
+    ghost faults = { λ s. s.faults };
+
+    fn begun(&self) -> bool
+        ensures { result ≡ is_some self.now.begun }
+    {
+        self.begun.is_some()
+    }
+
+    fn begin(&mut self, name: &str) -> Result<(), IoBad>
+        requires lawful { IsTrue (is_lawful_name name.now) }
+        requires none_begun { self.old.begun ≡ None }
+        ensures begun { self.new.begun ≡ begun_after name.now result }
+        ensures count { self.new.given ≡ self.old.given }
+        ensures cause { HasFaultCause self.old.faults self.new.faults result }
+    {
+        let Ok(path) = self.path_of(name) else {
+            return Err(IoBad::Memory);
+        };
+        let Ok(name) = String::from_str(self.alloc, name) else {
+            return Err(IoBad::Memory);
+        };
+        match File::create(&self.system, path.as_str()) {
+            Ok(file) => {
+                self.begun = Some(Begun { file, name });
+                Ok(())
+            }
+            Err(_) => Err(self.count_fault()),
+        }
+    }
+
+    fn append(&mut self, piece: &[u8]) -> Result<(), IoBad>
+        requires { IsSome self.old.begun }
+        ensures begun { self.new.begun ≡ self.old.begun }
+        ensures count { self.new.given ≡ self.old.given }
+        ensures cause { HasFaultCause self.old.faults self.new.faults result }
+    {
+        let Some(mut begun) = self.begun.take() else {
+            return Ok(());
+        };
+        let written = write_whole(&mut begun.file, piece);
+        self.begun = Some(begun);
+        match written {
+            Ok(()) => Ok(()),
+            Err(_) => Err(self.count_fault()),
+        }
+    }
+
+    // The file is closed where it is dropped.
+    fn finish(&mut self) -> Result<(), IoBad>
+        requires { IsSome self.old.begun }
+        ensures begun { self.new.begun ≡ None }
+        ensures count { self.new.given ≡ self.old.given }
+        ensures cause { HasFaultCause self.old.faults self.new.faults result }
+    {
+        self.begun = None;
+        Ok(())
+    }
+
+    fn fetch(&mut self, name: &str, at: u64, buf: &mut [u8]) -> Result<Option<usize>, IoBad>
+        requires lawful { IsTrue (is_lawful_name name.now) }
+        requires none_begun { self.old.begun ≡ None }
+        ensures bound { IfOk result (λ answer. IfSome answer (λ n. n ≤ length buf.new)) }
+        ensures begun { self.new.begun ≡ None }
+        ensures count { FetchCounts self.old.given self.new.given result }
+        ensures cause { HasFaultCause self.old.faults self.new.faults result }
+    {
+        let Ok(path) = self.path_of(name) else {
+            return Err(IoBad::Memory);
+        };
+        match self.try_fetch(path.as_str(), at, buf) {
+            Ok(answer) => {
+                self.given = self.given.saturating_add(answer.unwrap_or(0) as u64);
+                Ok(answer)
+            }
+            Err(_) => Err(self.count_fault()),
+        }
+    }
+}

@@ -1,0 +1,17 @@
+use Rattle.std.proofs.Common.{◌≡◌, ◌≤◌, length, sym, ap, ◌∙◌, inl, inr, arith}
+use Rattle.std.specs.Vec.{vec_len}
+use Rattle.las_top.specs.Audit.{audit_answer}
+use Rattle.las_top.specs.Runs.{most_bytes}
+use Rattle.las_top.proofs.audit.audit_file.Goals as goal
+
+pub returns-in_ok-audit_bytes-in-Ok-Some-clause-found : goal.returns-in_ok-audit_bytes-in-Ok-Some-clause-found
+returns-in_ok-audit_bytes-in-Ok-Some-clause-found g c =
+    let short : vec_len c.in-Ok-Some.bytes ≤ most_bytes = rw c.in-Ok-Some.field-0-is at c.in-Ok-Some.ensures.within in
+    inr (inr (record {
+      bytes = c.in-Ok-Some.bytes.items;
+      present = rw c.in-Ok-Some.field-0-is at c.in-Ok-Some.ensures.found;
+      came = rw c.in-Ok-Some.field-0-is at c.in-Ok-Some.ensures.all;
+      told = rw c.in-Ok-Some.field-0-is at c.in-Ok-Some.ensures.told;
+      within = omega (arith, short, ap length c.deref.ensures.value, c.deref.ensures.len);
+      answer_is = c.in_ok-audit_bytes-in-Ok-Some.ensures ∙ ap (audit_answer c.args.spec.now) c.deref.ensures.value;
+    }))

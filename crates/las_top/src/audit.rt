@@ -1,0 +1,198 @@
+// The command `audit`: whether a document solves one of the listed boxes.
+ghost use Rattle.std.specs.Prelude.{◌≡◌, None, IfOk, IsErrOf, IsTrue};
+ghost use Rattle.std.specs.List.{list_all, list_any};
+ghost use Rattle.las_base.specs.Cells.{same_cell};
+ghost use Rattle.las_io.specs.Counts.{Rose};
+ghost use Rattle.las_io.specs.Names.{is_lawful_name};
+ghost use Rattle.las_io.specs.Shelves.{FilesStay};
+ghost use Rattle.las_spec.specs.Briefs.{spec_of};
+ghost use Rattle.lasre_codec.specs.Documents.{IsLasre, lasre_as};
+ghost use Rattle.las_top.specs.Audit.{same_port, same_list, same_cells, same_job, same_pauli, is_listed, first_unserved, audit_of, audit_answer};
+ghost use Rattle.las_top.specs.Findings.{answer_by};
+ghost use Rattle.las_top.specs.Runs.{AnswersFile, AnswersSpec};
+
+use crate::check::first_breach;
+use crate::finding::{Finding, Refusal, Unfound};
+use crate::run::MOST_BYTES;
+use grid_box::Broken;
+use las_base::{Cell, Pauli, Port};
+use las_io::{FetchRefused, Shelf, fetch_all};
+use las_spec::{FlowWord, Job, Spec, SpecRefused, job, read_spec};
+use lasre_codec::{Lasre, LasreRefused, read_lasre};
+use std::alloc::{AllocError, Global};
+use surface_rules::first_bad_sheet;
+
+fn same_port(port: Port, other: Port) -> bool
+    ensures { result ≡ same_port port other }
+{
+    port == other
+}
+
+fn same_pauli(letter: Pauli, other: Pauli) -> bool
+    ensures { result ≡ same_pauli letter other }
+{
+    letter == other
+}
+
+fn same_ports(ports: &[Port], others: &[Port]) -> bool
+    ensures { result ≡ same_list same_port ports.now others.now }
+{
+    match (ports, others) {
+        ([], []) => true,
+        ([port, ports @ ..], [other, others @ ..]) => {
+            same_port(*port, *other) && same_ports(ports, others)
+        }
+        _ => false,
+    }
+}
+
+fn same_letters(letters: &[Pauli], others: &[Pauli]) -> bool
+    ensures { result ≡ same_list same_pauli letters.now others.now }
+{
+    match (letters, others) {
+        ([], []) => true,
+        ([letter, letters @ ..], [other, others @ ..]) => {
+            same_pauli(*letter, *other) && same_letters(letters, others)
+        }
+        _ => false,
+    }
+}
+
+fn same_flows(flows: &[FlowWord], others: &[FlowWord]) -> bool
+    ensures { result ≡ same_list (same_list same_pauli) flows.now others.now }
+{
+    match (flows, others) {
+        ([], []) => true,
+        ([flow, flows @ ..], [other, others @ ..]) => {
+            same_letters(flow.letters(), other.letters()) && same_flows(flows, others)
+        }
+        _ => false,
+    }
+}
+
+fn has_cell(cells: &[Cell], cell: Cell) -> bool
+    ensures { result ≡ list_any (same_cell cell) cells.now }
+{
+    cells.iter().any(|other| cell == *other)
+}
+
+// Whether the second list has each cell of the first.
+fn has_all(cells: &[Cell], others: &[Cell]) -> bool
+    ensures { result ≡ list_all (λ c. list_any (same_cell c) others.now) cells.now }
+{
+    cells.iter().all(|cell| has_cell(others, *cell))
+}
+
+fn same_cells(cells: &[Cell], others: &[Cell]) -> bool
+    ensures { result ≡ same_cells cells.now others.now }
+{
+    has_all(cells, others) && has_all(others, cells)
+}
+
+fn same_job(job: &Job, other: &Job) -> bool
+    ensures { result ≡ same_job job.now other.now }
+{
+    job.size() == other.size()
+        && same_ports(job.ports(), other.ports())
+        && same_flows(job.flows(), other.flows())
+        && same_cells(job.forbidden(), other.forbidden())
+}
+
+// Whether the job is that of a listed box.
+fn is_listed(alloc: Global, spec: &Spec, other: &Job) -> Result<bool, AllocError>
+    ensures { IfOk result (λ listed. listed ≡ is_listed spec.now other.now) }
+{
+    for number in 0..spec.box_count() {
+        if same_job(&job(alloc, spec, number)?, other) {
+            return Ok(true);
+        }
+    }
+    Ok(false)
+}
+
+// The first flow that its sheets do not serve, with the first breach of a rule of sheets.
+fn first_unserved(lasre: &Lasre) -> Option<(usize, Broken)>
+    requires { IsLasre (lasre_as lasre.now.job lasre.now.diagram lasre.now.sheets) }
+    ensures { result ≡ first_unserved lasre.now.job lasre.now.diagram lasre.now.sheets 0 lasre.now.job.flows }
+{
+    for flow in 0..lasre.job.flows().len() {
+        if let Some(broken) = first_bad_sheet(&lasre.job, &lasre.diagram, &lasre.sheets, flow) {
+            return Some((flow, broken));
+        }
+    }
+    None
+}
+
+// What is found of a job, a diagram and sheets.
+fn audit_of(alloc: Global, spec: &Spec, lasre: &Lasre) -> Result<Finding, AllocError>
+    requires { IsLasre (lasre_as lasre.now.job lasre.now.diagram lasre.now.sheets) }
+    ensures { IfOk result (λ f. answer_by f ≡ audit_of spec.now (lasre_as lasre.now.job lasre.now.diagram lasre.now.sheets)) }
+{
+    if !is_listed(alloc, spec, &lasre.job)? {
+        return Ok(Finding::OtherJob);
+    }
+    if let Some(broken) = first_breach(&lasre.job, &lasre.diagram) {
+        return Ok(Finding::Breach(broken));
+    }
+    match first_unserved(lasre) {
+        Some((flow, broken)) => Ok(Finding::Unserved(flow, broken)),
+        None => Ok(Finding::Solves),
+    }
+}
+
+// What is found of the bytes of a document, for a specification.
+fn audit_bytes(alloc: Global, spec: &Spec, bytes: &[u8]) -> Result<Finding, AllocError>
+    ensures { IfOk result (λ f. answer_by f ≡ audit_answer spec.now bytes.now) }
+{
+    match read_lasre(alloc, bytes) {
+        Ok(lasre) => audit_of(alloc, spec, &lasre),
+        Err(LasreRefused::Memory) => Err(AllocError),
+        Err(refusal) => Ok(Finding::Refused(Refusal::Lasre(refusal))),
+    }
+}
+
+// What is found of a file of the shelf, for a specification.
+fn audit_file<H: Shelf>(
+    alloc: Global,
+    spec: &Spec,
+    name: &str,
+    shelf: &mut H,
+) -> Result<Finding, Unfound>
+    requires lawful { IsTrue (is_lawful_name name.now) }
+    requires none_begun { H.begun_name shelf.old ≡ None }
+    ensures found { IfOk result (λ f. AnswersFile H.files H.finds H.given spec.now name.now shelf.old shelf.new (answer_by f)) }
+    ensures shelf_fault { IsErrOf result Unfound.ShelfFault → Rose (H.faults shelf.old) (H.faults shelf.new) }
+    ensures no_read_fault { IsErrOf result Unfound.ReadFault → ⊥ }
+    ensures files { FilesStay (H.files shelf.old) (H.files shelf.new) }
+    ensures begun { H.begun_name shelf.new ≡ None }
+{
+    match fetch_all(alloc, shelf, name, MOST_BYTES) {
+        Ok(Some(bytes)) => Ok(audit_bytes(alloc, spec, &bytes)?),
+        Ok(None) => Ok(Finding::Refused(Refusal::NoFile(String::from_str(alloc, name)?))),
+        Err(FetchRefused::TooLong) => Ok(Finding::Refused(Refusal::LasreTooLong)),
+        Err(FetchRefused::ShelfFault) => Err(Unfound::ShelfFault),
+        Err(FetchRefused::Memory) => Err(Unfound::Memory),
+    }
+}
+
+/// What `audit` finds of the document of a specification and of a file of the shelf.
+pub(crate) fn audit<H: Shelf>(
+    alloc: Global,
+    bytes: &[u8],
+    name: &str,
+    shelf: &mut H,
+) -> Result<Finding, Unfound>
+    requires lawful { IsTrue (is_lawful_name name.now) }
+    requires none_begun { H.begun_name shelf.old ≡ None }
+    ensures found { IfOk result (λ f. AnswersSpec H.files H.finds H.given name.now (spec_of bytes.now) shelf.old shelf.new (answer_by f)) }
+    ensures shelf_fault { IsErrOf result Unfound.ShelfFault → Rose (H.faults shelf.old) (H.faults shelf.new) }
+    ensures no_read_fault { IsErrOf result Unfound.ReadFault → ⊥ }
+    ensures files { FilesStay (H.files shelf.old) (H.files shelf.new) }
+    ensures begun { H.begun_name shelf.new ≡ None }
+{
+    match read_spec(alloc, bytes) {
+        Ok(spec) => audit_file(alloc, &spec, name, shelf),
+        Err(SpecRefused::Memory) => Err(Unfound::Memory),
+        Err(refusal) => Ok(Finding::Refused(Refusal::Spec(refusal))),
+    }
+}
