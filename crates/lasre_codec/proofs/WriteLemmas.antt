@@ -1,23 +1,25 @@
--- Values that are put one by one: arrays by number, and the object by its table of members.
-use Rattle.std.proofs.Common.{◌≡◌, ℕ, zero, suc, ◌+◌, ◌<◌, ◌≤◌, Bool, true, false, List, [], ◌∷◌, ◌++◌, map, length, take, get_or, refl, sym, ap, ◌∙◌, add-one, arith}
-use Rattle.std.specs.List.{list_all}
-use Rattle.std.specs.Ordering.{nat_cmp, match_ordering}
-use Rattle.std.specs.Cmp.Lexicographic.{slice_cmp}
-use Rattle.std.specs.declared.cmp.Ordering.{Ordering}
-use Rattle.std.specs.declared.cmp.Ordering.TheVariants.{Less, Equal, Greater}
-use Rattle.std.proofs.lemmas.Bool.{and_parts}
-use Rattle.std.proofs.lemmas.List.{map_push, take_all}
-use Rattle.serde_json.specs.Data.{Num, unsigned, negative, float, Data, null, boolean, number, string, array, object, Items, no_items, item, Members, no_members, member, put}
-use Rattle.serde_json.specs.View.{view, items_of}
+-- Values that are sent one by one: arrays by number, and the object by its table of members.
+use Rattle.std.proofs.Common.{◌≡◌, ℕ, zero, suc, ◌+◌, ◌<◌, ◌≤◌, false, List, [], ◌∷◌, ◌++◌, map, length, take, get_or, Some, refl, sym, ap, ◌∙◌, subst, arith}
+use Rattle.std.proofs.lemmas.List.{take_all, take_more}
+use Rattle.serde.specs.Event.{Log, Logs, Then, Sends, WritesEach, seq_begins, seq_ends, map_begins, map_ends, field_key}
+use Rattle.serde.specs.declared.name.Case.TheVariants.{AsIs}
+use Rattle.serde_json.specs.Data.{Num, unsigned, negative, float, Data, null, boolean, number, string, array, object, Items, no_items, item, Members, no_members, member}
+use Rattle.serde_json.specs.Events.{items_len, SendsValue, SendsItems, SendsMembers}
+use Rattle.serde_json.specs.View.{items_of}
 use Rattle.serde_json.specs.Written.{has_float, items_have_float, members_have_float}
-use Rattle.serde_json.specs.declared.value.Value.{Value}
-use Rattle.las_base.specs.Cells.{numbers_from, rises}
+use Rattle.las_base.specs.Cells.{numbers_from}
+use Rattle.las_spec.specs.Texts.{array_of}
 use Rattle.las_spec.proofs.Printed.{IsWhole, IsPlain, AreItemsPlain, AreMembersPlain, joined}
 use Rattle.lasre_codec.specs.declared.member.Member.{Member}
 use Rattle.lasre_codec.specs.Members.{member_name, members}
 use Rattle.lasre_codec.specs.Documents.{Lasre, IsLasre}
 use Rattle.lasre_codec.specs.Texts.{member_value, members_by, lasre_value}
 use Rattle.lasre_codec.proofs.TextLemmas.{lasre_plain}
+
+-- one more is sent behind those before it
+sent_behind : {A : Type 0} (sends : A → Log → Log → Type 0) (xs : List A) (x : A) (first mid new : Log) → WritesEach sends xs first mid → sends x mid new → WritesEach sends (xs ++ x ∷ []) first new
+sent_behind sends [] x first mid new before next = (new, subst (λ l. sends x l new) before next, refl)
+sent_behind sends (y ∷ ys) x first mid new before next = (before.0, before.1, sent_behind sends ys x before.0 mid new before.2 next)
 
 -- ---- arrays
 
@@ -27,53 +29,59 @@ numbers_more first (suc n) =
     let at : suc first + n ≡ first + suc n = omega arith in
     ap (λ xs. first ∷ xs) (numbers_more (suc first) n ∙ ap (λ x. numbers_from (suc first) n ++ x ∷ []) at)
 
--- the values stand for the first n numbers, and one more for the next
-pub number_put : (f : ℕ → Data) (n : ℕ) (old new : List Value) (value : Value) → map view old ≡ map f (numbers_from 0 n) → view value ≡ f n → new ≡ old ++ value ∷ []
-    → map view new ≡ map f (numbers_from 0 (n + 1))
-number_put f n old new value before stands put_is =
-    let left : map view new ≡ map f (numbers_from 0 n) ++ f n ∷ [] = rw (put_is, map_push view old value, before, stands) refl in
-    let next : n + 1 ≡ suc n = omega arith in
-    let last : 0 + n ≡ n = omega arith in
-    left ∙ sym (ap (λ m. map f (numbers_from 0 m)) next ∙ ap (map f) (numbers_more 0 n) ∙ ap (λ m. map f (numbers_from 0 n ++ m ∷ [])) last ∙ map_push f (numbers_from 0 n) n)
+numbers_len : (first n : ℕ) → length (numbers_from first n) ≡ n
+numbers_len first zero = refl
+numbers_len first (suc n) = ap suc (numbers_len (suc first) n)
 
--- the values stand for all
-pub numbers_put : (f : ℕ → Data) (n count : ℕ) (values : List Value) → map view values ≡ map f (numbers_from 0 n) → n ≡ count → array (items_of (map view values)) ≡ array (items_of (map f (numbers_from 0 count)))
-numbers_put f n count values before all = ap (λ ds. array (items_of ds)) (before ∙ ap (λ m. map f (numbers_from 0 m)) all)
+-- the values for the first n numbers are sent in turn
+abbrev pub AreSent : (ℕ → Data) → ℕ → Log → Log → Type 0
+AreSent f n = WritesEach (λ k. SendsValue (f k)) (numbers_from 0 n)
+
+-- and one more for the next
+pub number_sent : (f : ℕ → Data) (n : ℕ) (first mid new : Log) → AreSent f n first mid → SendsValue (f n) mid new → AreSent f (n + 1) first new
+number_sent f n first mid new before next =
+    let more : n + 1 ≡ suc n = omega arith in
+    let last : 0 + n ≡ n = omega arith in
+    subst (λ ns. WritesEach (λ k. SendsValue (f k)) ns first new) (sym (ap (numbers_from 0) more ∙ numbers_more 0 n ∙ ap (λ m. numbers_from 0 n ++ m ∷ []) last)) (sent_behind (λ k. SendsValue (f k)) (numbers_from 0 n) n first mid new before next)
+
+items_sent : (f : ℕ → Data) (ns : List ℕ) (first last new : Log) → WritesEach (λ k. SendsValue (f k)) ns first last → Logs last new seq_ends → SendsItems (items_of (map f ns)) first new
+items_sent f [] first last new before ended = subst (λ l. Logs l new seq_ends) before ended
+items_sent f (n ∷ ns) first last new before ended = (before.0, before.1, items_sent f ns before.0 last new before.2 ended)
+
+items_many : (f : ℕ → Data) (ns : List ℕ) → items_len (items_of (map f ns)) ≡ length ns
+items_many f [] = refl
+items_many f (n ∷ ns) = ap suc (items_many f ns)
+
+-- between the marks of a sequence they are an array
+pub numbers_sent : (f : ℕ → Data) (n count : ℕ) (old first last new : Log) → Logs old first (seq_begins (Some count)) → AreSent f n first last → n ≡ count → Logs last new seq_ends → SendsValue (array_of (map f (numbers_from 0 count))) old new
+numbers_sent f n count old first last new begun before all ended = (
+  first,
+  subst (λ m. Logs old first (seq_begins (Some m))) (sym (items_many f (numbers_from 0 count) ∙ numbers_len 0 count)) begun,
+  items_sent f (numbers_from 0 count) first last new (subst (λ m. AreSent f m first last) all before) ended,
+)
 
 -- ---- members
 
--- the name of the first stands before that of the second
-abbrev name_before : Member → Member → Bool
-name_before a b = match_ordering (slice_cmp nat_cmp (member_name b) (member_name a)) false false true
+-- a member's name is sent, and then its value
+abbrev pub SendsMember : Lasre → Member → Log → Log → Type 0
+SendsMember l m = Then (Sends (field_key (member_name m) AsIs)) (SendsValue (member_value l m))
 
-behind : {A : Type 0} (o : Ordering) (a b c : A) → match_ordering o false false true ≡ true → match_ordering o a b c ≡ c
-behind Less a b c e = absurd (cc)
-behind Equal a b c e = absurd (cc)
-behind Greater a b c e = refl
+-- the first n members are sent, and one more
+pub member_sent : (l : Lasre) (n : ℕ) (d : Member) (name : List ℕ) (first mid named new : Log) → n < 20 → WritesEach (SendsMember l) (take n members) first mid → name ≡ member_name (get_or members n d) → Logs mid named (field_key name AsIs) → SendsValue (member_value l (get_or members n d)) named new
+    → WritesEach (SendsMember l) (take (n + 1) members) first new
+member_sent l n d name first mid named new low before name_is named_is value =
+    subst (λ ms. WritesEach (SendsMember l) ms first new) (sym (take_more members n d low))
+    (sent_behind (SendsMember l) (take n members) (get_or members n d) first mid new before (named, subst (λ s. Logs mid named (field_key s AsIs)) name_is named_is, value))
 
-passes_at : {A : Type 0} (test : A → Bool) (xs : List A) (n : ℕ) (d : A) → list_all test xs ≡ true → n < length xs → test (get_or xs n d) ≡ true
-passes_at test [] n d all low = absurd (omega arith)
-passes_at test (x ∷ xs) zero d all low = (and_parts (test x) (list_all test xs) all).0
-passes_at test (x ∷ xs) (suc n) d all low = passes_at test xs n d (and_parts (test x) (list_all test xs) all).1 (omega arith)
+members_end : (l : Lasre) (ms : List Member) (first last new : Log) → WritesEach (SendsMember l) ms first last → Logs last new map_ends → SendsMembers (members_by l ms) first new
+members_end l [] first last new before ended = subst (λ x. Logs x new map_ends) before ended
+members_end l (m ∷ ms) first last new before ended = (before.1.0, before.0, before.1.1, before.1.2, members_end l ms before.0 last new before.2 ended)
 
--- each of a list in order is put behind those before it
-next_put : (l : Lasre) (ms : List Member) (n : ℕ) (d : Member) → rises name_before ms ≡ true → n < length ms → put (member_name (get_or ms n d)) (member_value l (get_or ms n d)) (members_by l (take n ms)) ≡ members_by l (take (suc n) ms)
-next_put l [] n d in_order low = absurd (omega arith)
-next_put l (m ∷ ms) zero d in_order low = refl
-next_put l (m ∷ ms) (suc n) d in_order low =
-    let p = and_parts (list_all (name_before m) ms) (rises name_before ms) in_order in
-    let low_rest : n < length ms = omega arith in
-    behind (slice_cmp nat_cmp (member_name (get_or ms n d)) (member_name m)) _ _ _ (passes_at (name_before m) ms n d p.0 low_rest) ∙ ap (member (member_name m) (member_value l m)) (next_put l ms n d p.1 low_rest)
-
--- the object has the first n members, and one more for the next
-pub member_put : (l : Lasre) (n : ℕ) (d : Member) (name : List ℕ) (value : Data) (old new : Members) → n < 20 → old ≡ members_by l (take n members) → name ≡ member_name (get_or members n d) → value ≡ member_value l (get_or members n d) → new ≡ put name value old
-    → new ≡ members_by l (take (n + 1) members)
-member_put l n d name value old new low before name_is value_is put_is = rw (add-one, put_is, before, name_is, value_is) (next_put l members n d refl low)
-
--- the object has all
-pub members_put : (l : Lasre) (n : ℕ) (found : Members) → 20 ≤ n → found ≡ members_by l (take n members) → object found ≡ lasre_value l
+-- between the marks of a map they are the object
+pub members_sent : (l : Lasre) (n : ℕ) (old first last new : Log) → Logs old first (map_begins (Some 20)) → 20 ≤ n → WritesEach (SendsMember l) (take n members) first last → Logs last new map_ends → SendsValue (lasre_value l) old new
 unfolding lasre_value
-members_put l n found all before = ap object (before ∙ ap (members_by l) (take_all n members all))
+members_sent l n old first last new begun all before ended =
+    (first, begun, members_end l members first last new (subst (λ ms. WritesEach (SendsMember l) ms first last) (take_all n members all) before) ended)
 
 -- ---- no floats
 

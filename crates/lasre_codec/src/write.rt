@@ -1,22 +1,23 @@
-// The text of a diagram with its job and its sheets. Its parts are built as values, and serde_json writes the
-// whole.
-ghost use Rattle.std.specs.Prelude.{◌≡◌, length, IfOk, Ok};
-ghost use Rattle.serde_json.specs.View.{view};
+// The text of a diagram with its job and its sheets. serde_json writes it, member by member and bit by bit.
+ghost use Rattle.std.specs.Prelude.{◌≡◌, length, IfOk, OnOk, Ok};
+ghost use Rattle.serde_json.specs.Events.{SendsValue};
 ghost use Rattle.lasre_codec.specs.Documents.{lasre_as, lasre_of, without_absent};
-ghost use Rattle.lasre_codec.specs.Texts.{bit_value, row_value, plane_value, grid_value, stack_value, exists_at, is_z_low, is_z_high, has_corr, bit_of, bits_value, member_value, lasre_value, lasre_text_of};
+ghost use Rattle.lasre_codec.specs.Texts.{row_value, plane_value, grid_value, stack_value, exists_at, is_z_low, is_z_high, has_corr, bit_of, bits_value, member_value, lasre_value, lasre_text_of};
 
 use crate::Member;
 use crate::member::MEMBERS;
 use grid_box::{Diagram, Sheets};
 use las_base::{Axis, Cell, Kind};
 use las_spec::{Job, options_value, port_values, word_values};
-use serde_json::{Map, Value, put};
+use serde::{Described, Serialize, Serializer};
+use serde_json::{Value, to_vec};
 use std::alloc::{AllocError, Global};
 use std::marker::Model;
 
 // What is written.
 #[derive(Drop)]
 struct Parts<'a> {
+    alloc: Global,
     job: &'a Job,
     diagram: &'a Diagram,
     sheets: &'a Sheets,
@@ -75,107 +76,123 @@ fn bit_of(parts: &Parts, member: Member, flow: usize, cell: Cell) -> bool
     }
 }
 
-fn bit_value(bit: bool) -> Value
-    ensures { view result ≡ bit_value bit }
-{
-    Value::from(if bit { 1u32 } else { 0 })
-}
+// Each of these sends one value of the document: its events are those of the value that it stands for.
 
-fn row_value(
-    alloc: Global,
+fn send_row<S: Serializer>(
     parts: &Parts,
     member: Member,
     flow: usize,
     i: u32,
     j: u32,
-) -> Result<Value, AllocError>
-    ensures { IfOk result (λ v. view v ≡ row_value parts.now.task.size (bit_of parts.now member flow) i j) }
+    out: &mut S,
+) -> Result<(), S::Error>
+    ensures { OnOk result (SendsValue (row_value parts.now.task.size (bit_of parts.now member flow) i j) (S.written out.old) (S.written out.new)) }
 {
     let size = parts.job.size();
-    let mut values = Vec::with_capacity(alloc, size.k as usize)?;
+    out.begin_seq(Some(size.k as usize))?;
     for k in 0..size.k {
-        values.push(bit_value(bit_of(parts, member, flow, Cell { i, j, k })))?;
+        out.u64(u64::from(bit_of(parts, member, flow, Cell { i, j, k })))?;
     }
-    Ok(Value::Array(values))
+    out.end_seq()
 }
 
-fn plane_value(
-    alloc: Global,
+fn send_plane<S: Serializer>(
     parts: &Parts,
     member: Member,
     flow: usize,
     i: u32,
-) -> Result<Value, AllocError>
-    ensures { IfOk result (λ v. view v ≡ plane_value parts.now.task.size (bit_of parts.now member flow) i) }
+    out: &mut S,
+) -> Result<(), S::Error>
+    ensures { OnOk result (SendsValue (plane_value parts.now.task.size (bit_of parts.now member flow) i) (S.written out.old) (S.written out.new)) }
 {
     let size = parts.job.size();
-    let mut values = Vec::with_capacity(alloc, size.j as usize)?;
+    out.begin_seq(Some(size.j as usize))?;
     for j in 0..size.j {
-        values.push(row_value(alloc, parts, member, flow, i, j)?)?;
+        send_row(parts, member, flow, i, j, out)?;
     }
-    Ok(Value::Array(values))
+    out.end_seq()
 }
 
-fn grid_value(
-    alloc: Global,
+fn send_grid<S: Serializer>(
     parts: &Parts,
     member: Member,
     flow: usize,
-) -> Result<Value, AllocError>
-    ensures { IfOk result (λ v. view v ≡ grid_value parts.now.task.size (bit_of parts.now member flow)) }
+    out: &mut S,
+) -> Result<(), S::Error>
+    ensures { OnOk result (SendsValue (grid_value parts.now.task.size (bit_of parts.now member flow)) (S.written out.old) (S.written out.new)) }
 {
     let size = parts.job.size();
-    let mut values = Vec::with_capacity(alloc, size.i as usize)?;
+    out.begin_seq(Some(size.i as usize))?;
     for i in 0..size.i {
-        values.push(plane_value(alloc, parts, member, flow, i)?)?;
+        send_plane(parts, member, flow, i, out)?;
     }
-    Ok(Value::Array(values))
+    out.end_seq()
 }
 
-fn stack_value(alloc: Global, parts: &Parts, member: Member) -> Result<Value, AllocError>
-    ensures { IfOk result (λ v. view v ≡ stack_value parts.now member) }
+fn send_stack<S: Serializer>(parts: &Parts, member: Member, out: &mut S) -> Result<(), S::Error>
+    ensures { OnOk result (SendsValue (stack_value parts.now member) (S.written out.old) (S.written out.new)) }
 {
     let count = parts.job.flows().len();
-    let mut values = Vec::with_capacity(alloc, count)?;
+    out.begin_seq(Some(count))?;
     for flow in 0..count {
-        values.push(grid_value(alloc, parts, member, flow)?)?;
+        send_grid(parts, member, flow, out)?;
     }
-    Ok(Value::Array(values))
+    out.end_seq()
 }
 
-fn bits_value(alloc: Global, parts: &Parts, member: Member) -> Result<Value, AllocError>
-    ensures { IfOk result (λ v. view v ≡ bits_value parts.now member) }
+fn send_bits<S: Serializer>(parts: &Parts, member: Member, out: &mut S) -> Result<(), S::Error>
+    ensures { OnOk result (SendsValue (bits_value parts.now member) (S.written out.old) (S.written out.new)) }
 {
     if member.is_stack() {
-        stack_value(alloc, parts, member)
+        send_stack(parts, member, out)
     } else {
-        grid_value(alloc, parts, member, 0)
+        send_grid(parts, member, 0, out)
     }
 }
 
-fn member_value(alloc: Global, parts: &Parts, member: Member) -> Result<Value, AllocError>
-    ensures { IfOk result (λ v. view v ≡ member_value parts.now member) }
+// Want of memory as the serializer's own error.
+fn built<S: Serializer>(value: Result<Value, AllocError>, out: &S) -> Result<Value, S::Error>
+    ensures { IfOk result (λ v. value ≡ Ok v) }
+{
+    match value {
+        Ok(value) => Ok(value),
+        Err(AllocError) => Err(out.custom("memory")),
+    }
+}
+
+// The job's own members are small: each is built before it is sent.
+fn send_member<S: Serializer>(parts: &Parts, member: Member, out: &mut S) -> Result<(), S::Error>
+    ensures { OnOk result (SendsValue (member_value parts.now member) (S.written out.old) (S.written out.new)) }
 {
     match member {
-        Member::MaxI => Ok(Value::from(parts.job.size().i)),
-        Member::MaxJ => Ok(Value::from(parts.job.size().j)),
-        Member::MaxK => Ok(Value::from(parts.job.size().k)),
-        Member::Optional => options_value(alloc, parts.job.forbidden()),
-        Member::Ports => port_values(alloc, parts.job.ports()),
-        Member::Stabilizers => word_values(alloc, parts.job.flows()),
-        _ => bits_value(alloc, parts, member),
+        Member::MaxI => parts.job.size().i.serialize(out),
+        Member::MaxJ => parts.job.size().j.serialize(out),
+        Member::MaxK => parts.job.size().k.serialize(out),
+        Member::Optional => built(
+            options_value(parts.alloc, parts.job.forbidden()),
+            out,
+        )?.serialize(out),
+        Member::Ports => built(port_values(parts.alloc, parts.job.ports()), out)?.serialize(out),
+        Member::Stabilizers => built(word_values(parts.alloc, parts.job.flows()), out)?.serialize(
+            out,
+        ),
+        _ => send_bits(parts, member, out),
     }
 }
 
-fn lasre_value(alloc: Global, parts: &Parts) -> Result<Value, AllocError>
-    ensures { IfOk result (λ v. view v ≡ lasre_value parts.now) }
-{
-    let mut map = Map::new(alloc);
-    for member in MEMBERS {
-        let value = member_value(alloc, parts, member)?;
-        put(&mut map, alloc, member.name(), value)?;
+impl<'a> Described for Parts<'a> {
+    ghost writes = { λ p. SendsValue (lasre_value p) };
+}
+
+impl<'a> Serialize for Parts<'a> {
+    fn serialize<S: Serializer>(&self, out: &mut S) -> Result<(), S::Error> {
+        out.begin_map(Some(MEMBERS.len()))?;
+        for member in MEMBERS {
+            out.key(member.name())?;
+            send_member(self, member, out)?;
+        }
+        out.end_map()
     }
-    Ok(Value::Object(map))
 }
 
 /// The text of a job, a diagram for it and the sheets of its flows: one line of JSON, with its line feed.
@@ -196,11 +213,16 @@ pub fn lasre_text(
     // Each of the three tells by its size what it keeps.
     let _ = (job.size(), diagram.size(), sheets.size());
     let parts = Parts {
+        alloc,
         job,
         diagram,
         sheets,
     };
-    let mut text = lasre_value(alloc, &parts)?.to_vec(alloc)?;
-    text.push(b'\n')?;
-    Ok(text)
+    match to_vec(alloc, &parts) {
+        Ok(mut text) => {
+            text.push(b'\n')?;
+            Ok(text)
+        }
+        Err(_) => Err(AllocError),
+    }
 }
