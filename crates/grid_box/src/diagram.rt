@@ -195,6 +195,7 @@ fn slot_number(size: Size, axis: Axis, cell: Cell) -> usize
 #[cfg(test)]
 mod tests {
     use super::*;
+    use crate::has_leg_along;
     use std::test::Fail;
 
     fn at(i: u32, j: u32, k: u32) -> Cell
@@ -240,6 +241,8 @@ mod tests {
             diagram.legs(at(0, 0, 1)).as_slice(),
             [along_i, from_below, up].as_slice()
         );
+        let legs = [from_below, up];
+        assert!(rt; has_leg_along(&legs, Axis::K) && !has_leg_along(&legs, Axis::I));
         assert_eq!(rt; diagram.legs(at(1, 0, 1)).as_slice(), [from_i].as_slice());
         assert_eq!(rt; diagram.legs(at(0, 1, 1)).len(), 0);
         Ok(())

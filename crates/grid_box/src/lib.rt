@@ -6,7 +6,7 @@
 #![tactic(auto)]
 
 ghost use Rattle.std.specs.Prelude.{◌≡◌};
-ghost use Rattle.grid_box.specs.Legs.{kind_on, end_of_way};
+ghost use Rattle.grid_box.specs.Legs.{has_leg_along, kind_on, end_of_way};
 ghost use Rattle.grid_box.specs.PipeRules.{is_port_leg};
 
 mod diagram;
@@ -64,6 +64,13 @@ fn end_of(way: Way) -> End
         Way::Plus => End::Low,
         Way::Minus => End::High,
     }
+}
+
+/// Whether some leg is along an axis.
+pub fn has_leg_along(legs: &[Leg], axis: Axis) -> bool
+    ensures { result ≡ has_leg_along legs.now axis }
+{
+    legs.iter().any(|leg| leg.axis == axis)
 }
 
 /// The kind of a leg's faces normal to an axis. It means nothing on the leg's own axis.

@@ -3,3 +3,5 @@ pub mod ArrayLemmas
 pub mod EachLemmas
 pub mod GridLemmas
 pub mod LawLemmas
+pub mod LineFeed
+pub mod Printed

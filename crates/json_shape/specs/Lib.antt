@@ -4,3 +4,4 @@ pub mod Numbers
 pub mod Grids
 pub mod GridLaws
 pub mod Examples
+pub mod Plain

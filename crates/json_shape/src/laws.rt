@@ -1,5 +1,6 @@
-// What lengths and entries of a grid say of one another.
+// What lengths and entries of a grid say of one another, and what is printed for plain values.
 ghost use Rattle.json_shape.specs.GridLaws.{GridsAreFull, EntriesAreInPlace, BoxesAreFull, BoxesAreInPlace, StacksAreFull, StacksAreInPlace};
+ghost use Rattle.json_shape.specs.Plain.{PlainHasNoFloat, PrintedIsReadBack};
 
 /// A grid has as many entries as the product of its lengths.
 pub fn grids_are_full()
@@ -29,4 +30,14 @@ pub fn stacks_are_full()
 /// In a grid four arrays deep the entry at m, i, j, k stands at ((m · a + i) · b + j) · c + k.
 pub fn stacks_are_in_place()
     ensures { StacksAreInPlace }
+{}
+
+/// A plain value has no float: no number with a fraction, of any size.
+pub fn plain_has_no_float()
+    ensures { PlainHasNoFloat }
+{}
+
+/// The compact text of a plain value, with its line feed, is read back as that value.
+pub fn printed_is_read_back()
+    ensures { PrintedIsReadBack }
 {}

@@ -4,15 +4,12 @@ pub mod WrittenLemmas
 pub mod BriefLemmas
 pub mod SweepLemmas
 pub mod TextLemmas
-pub mod FloatLemmas
 pub mod RefusedLemmas
 pub mod Lists
 pub mod Shapes
 pub mod Members
 pub mod Distinct
 pub mod Lawful
-pub mod LineFeed
-pub mod Printed
 pub mod SpecValues
 pub mod ReadBackLemmas
 pub mod JobLemmas

@@ -4,7 +4,7 @@ use Rattle.las_spec.specs.Briefs.{spec_by, spec_of}
 use Rattle.las_spec.specs.Texts.{spec_value, TextIsReadBack}
 use Rattle.las_spec.proofs.Members.{value_gives}
 use Rattle.las_spec.proofs.Lawful.{boxes_within, writes_give}
-use Rattle.las_spec.proofs.Printed.{printed_back}
+use Rattle.json_shape.proofs.Printed.{printed_back}
 use Rattle.las_spec.proofs.SpecValues.{spec_plain, spec_shallow}
 
 pub text_is_read_back : TextIsReadBack

@@ -21,7 +21,7 @@ use Rattle.las_base.specs.Jobs.{Task, IsTask, within_limits, port_fits}
 use Rattle.las_spec.specs.Briefs.{Brief, IsBrief}
 use Rattle.las_spec.specs.Texts.{array_of, whole_value, cell_value, size_value, axis_word, direction_word, port_value, letter_of, word_value, options_value, spec_value}
 use Rattle.las_spec.proofs.Lists.{all_of_each}
-use Rattle.las_spec.proofs.Printed.{IsPlain, AreItemsPlain}
+use Rattle.json_shape.specs.Plain.{IsPlain, AreItemsPlain}
 use Rattle.las_spec.proofs.Shapes.{AreNear, limits_near, held_near, port_near, letters_are_ascii}
 use Rattle.las_spec.proofs.Lawful.{boxes_within}
 

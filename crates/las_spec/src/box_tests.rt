@@ -137,6 +137,8 @@ fn boxes_of_a_cnot(rt: HostRuntime) -> Result<(), Fail> {
     let carried = [up(1, 0, 0), up(0, 1, 0), down(1, 0, 1), down(0, 1, 1)];
     assert_eq!(rt; job.size(), size(2, 2, 1));
     assert_eq!(rt; job.ports(), carried.as_slice());
+    assert!(rt; job.has_port_at(carried[0].place));
+    assert!(rt; !job.has_port_at(cell(9, 0, 0)));
     assert_eq!(rt; job.flows().len(), 2);
     assert_eq!(rt; job.flows()[1].letters(), [Pauli::Z; 4].as_slice());
     assert_eq!(rt; job.forbidden(), [cell(0, 0, 0)].as_slice());

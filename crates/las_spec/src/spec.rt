@@ -1,6 +1,6 @@
 // Specifications and jobs.
 ghost use Rattle.std.specs.Prelude.{◌≡◌, ◌<◌, Some, length, slice_get, IsTrue};
-ghost use Rattle.las_base.specs.Jobs.{IsTask, task_of, within_limits};
+ghost use Rattle.las_base.specs.Jobs.{IsTask, task_of, within_limits, is_port_place};
 ghost use Rattle.las_spec.specs.Briefs.{IsBrief, brief_of};
 ghost use Rattle.las_spec.specs.declared.spec.Rules.TheVariants.{One};
 
@@ -86,6 +86,13 @@ impl Job {
         ensures { result.now ≡ self.now.ports }
     {
         &self.ports
+    }
+
+    /// Whether some port stands at a cell.
+    pub fn has_port_at(&self, cell: Cell) -> bool
+        ensures { result ≡ is_port_place self.now cell }
+    {
+        self.ports.iter().any(|port| port.place == cell)
     }
 
     /// Its flows, each with a letter for each port.

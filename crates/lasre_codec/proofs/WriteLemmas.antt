@@ -1,20 +1,17 @@
 -- Values that are sent one by one: arrays by number, and the object by its table of members.
-use Rattle.std.proofs.Common.{◌≡◌, ℕ, zero, suc, ◌+◌, ◌<◌, ◌≤◌, false, List, [], ◌∷◌, ◌++◌, map, length, take, get_or, Some, refl, sym, ap, ◌∙◌, subst, arith}
+use Rattle.std.proofs.Common.{◌≡◌, ℕ, zero, suc, ◌+◌, ◌<◌, ◌≤◌, List, [], ◌∷◌, ◌++◌, map, length, take, get_or, Some, refl, sym, ap, ◌∙◌, subst, arith}
 use Rattle.std.proofs.lemmas.List.{take_all, take_more}
 use Rattle.serde.specs.Event.{Log, Logs, Then, Sends, WritesEach, seq_begins, seq_ends, map_begins, map_ends, field_key}
 use Rattle.serde.specs.declared.name.Case.TheVariants.{AsIs}
-use Rattle.serde_json.specs.Data.{Num, unsigned, negative, float, Data, null, boolean, number, string, array, object, Items, no_items, item, Members, no_members, member}
+use Rattle.serde_json.specs.Data.{Data}
 use Rattle.serde_json.specs.Events.{items_len, SendsValue, SendsItems, SendsMembers}
 use Rattle.serde_json.specs.View.{items_of}
-use Rattle.serde_json.specs.Written.{has_float, items_have_float, members_have_float}
 use Rattle.las_base.specs.Cells.{numbers_from}
 use Rattle.las_spec.specs.Texts.{array_of}
-use Rattle.las_spec.proofs.Printed.{IsWhole, IsPlain, AreItemsPlain, AreMembersPlain, joined}
 use Rattle.lasre_codec.specs.declared.member.Member.{Member}
 use Rattle.lasre_codec.specs.Members.{member_name, members}
-use Rattle.lasre_codec.specs.Documents.{Lasre, IsLasre}
+use Rattle.lasre_codec.specs.Documents.{Lasre}
 use Rattle.lasre_codec.specs.Texts.{member_value, members_by, lasre_value}
-use Rattle.lasre_codec.proofs.TextLemmas.{lasre_plain}
 
 -- one more is sent behind those before it
 sent_behind : {A : Type 0} (sends : A → Log → Log → Type 0) (xs : List A) (x : A) (first mid new : Log) → WritesEach sends xs first mid → sends x mid new → WritesEach sends (xs ++ x ∷ []) first new
@@ -82,30 +79,3 @@ pub members_sent : (l : Lasre) (n : ℕ) (old first last new : Log) → Logs old
 unfolding lasre_value
 members_sent l n old first last new begun all before ended =
     (first, begun, members_end l members first last new (subst (λ ms. WritesEach (SendsMember l) ms first last) (take_all n members all) before) ended)
-
--- ---- no floats
-
-whole_is_no_float : (n : Num) → IsWhole n → has_float (number n) ≡ false
-whole_is_no_float (unsigned n) h = refl
-whole_is_no_float (negative z) h = absurd h
-whole_is_no_float (float x) h = absurd h
-
-mutual
-  no_float : (d : Data) → IsPlain d → has_float d ≡ false
-  no_float null h = refl
-  no_float (boolean b) h = refl
-  no_float (number n) h = whole_is_no_float n h
-  no_float (string s) h = refl
-  no_float (array ds) h = no_float_in_items ds h
-  no_float (object ms) h = no_float_in_members no_members ms h
-
-  no_float_in_items : (ds : Items) → AreItemsPlain ds → items_have_float ds ≡ false
-  no_float_in_items no_items h = refl
-  no_float_in_items (item d ds) h = rw (no_float d h.0) (no_float_in_items ds h.1)
-
-  no_float_in_members : (found ms : Members) → AreMembersPlain found ms → members_have_float ms ≡ false
-  no_float_in_members found no_members h = refl
-  no_float_in_members found (member k d ms) h = rw (no_float d h.2) (no_float_in_members (joined found (member k d no_members)) ms h.3)
-
-pub lasre_has_no_float : (l : Lasre) → IsLasre l → has_float (lasre_value l) ≡ false
-lasre_has_no_float l h = no_float (lasre_value l) (lasre_plain l h)

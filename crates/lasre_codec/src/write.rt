@@ -14,7 +14,7 @@ use serde_json::{Value, to_vec};
 use std::alloc::{AllocError, Global};
 use std::marker::Model;
 
-// What is written.
+// What is written, and what gives memory for its small parts.
 #[derive(Drop)]
 struct Parts<'a> {
     alloc: Global,

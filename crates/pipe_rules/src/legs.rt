@@ -1,6 +1,6 @@
 // Tests of the legs of a cell.
 ghost use Rattle.std.specs.Prelude.{◌≡◌};
-ghost use Rattle.grid_box.specs.Legs.{along, has_leg_along};
+ghost use Rattle.grid_box.specs.Legs.{along};
 ghost use Rattle.grid_box.specs.PipeRules.{is_only, is_port_leg};
 
 use grid_box::Leg;
@@ -24,11 +24,4 @@ pub(crate) fn is_k_leg_alone(legs: &[Leg]) -> bool
         [leg] => leg.axis == Axis::K,
         _ => false,
     }
-}
-
-/// Whether some leg is along the axis.
-pub(crate) fn has_leg_along(legs: &[Leg], axis: Axis) -> bool
-    ensures { result ≡ has_leg_along legs.now axis }
-{
-    legs.iter().any(|leg| leg.axis == axis)
 }

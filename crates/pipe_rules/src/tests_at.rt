@@ -1,19 +1,13 @@
 // The rules, each as a test of the cell that it names.
 ghost use Rattle.std.specs.Prelude.{◌≡◌};
 ghost use Rattle.las_base.specs.Cells.{IsNear};
-ghost use Rattle.las_base.specs.Jobs.{is_port_place, is_forbidden};
+ghost use Rattle.las_base.specs.Jobs.{is_forbidden};
 ghost use Rattle.grid_box.specs.PipeRules.{stays_along, stays_in_box, has_port_pipe, leaves_forbidden_empty, y_cube_has_one_k_leg, is_no_dead_end, has_no_three_axes};
 
-use crate::legs::{has_leg_along, is_k_leg_alone, is_port_leg_alone};
-use grid_box::Diagram;
+use crate::legs::{is_k_leg_alone, is_port_leg_alone};
+use grid_box::{Diagram, has_leg_along};
 use las_base::{Axis, Cell, Way};
 use las_spec::Job;
-
-fn is_port_place(job: &Job, cell: Cell) -> bool
-    ensures { result ≡ is_port_place job.now cell }
-{
-    job.ports().iter().any(|port| port.place == cell)
-}
 
 fn is_forbidden(job: &Job, cell: Cell) -> bool
     ensures { result ≡ is_forbidden job.now cell }
@@ -27,7 +21,7 @@ fn stays_along(job: &Job, diagram: &Diagram, axis: Axis, cell: Cell) -> bool
     ensures { result ≡ stays_along job.now diagram.now axis cell }
 {
     match (diagram.pipe(axis, cell), cell.step(axis, Way::Plus)) {
-        (Some(_), Some(high)) => job.size().holds(high) || is_port_place(job, high),
+        (Some(_), Some(high)) => job.size().holds(high) || job.has_port_at(high),
         _ => true,
     }
 }
@@ -74,7 +68,7 @@ pub(crate) fn is_no_dead_end(job: &Job, diagram: &Diagram, cell: Cell) -> bool
     requires { IsNear cell }
     ensures { result ≡ is_no_dead_end job.now diagram.now cell }
 {
-    diagram.legs(cell).len() != 1 || diagram.is_y(cell) || is_port_place(job, cell)
+    diagram.legs(cell).len() != 1 || diagram.is_y(cell) || job.has_port_at(cell)
 }
 
 pub(crate) fn has_no_three_axes(job: &Job, diagram: &Diagram, cell: Cell) -> bool

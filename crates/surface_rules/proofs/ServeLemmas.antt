@@ -1,27 +1,12 @@
 -- No breach means that every rule of sheets holds.
-use Rattle.std.proofs.Common.{◌≡◌, Bool, true, false, cond, not, ◌&&◌, List, [], ◌∷◌, Option, Some, None, refl, ap, ◌∙◌}
-use Rattle.std.specs.List.{find, list_all}
-use Rattle.std.proofs.lemmas.Bool.{and_parts}
+use Rattle.std.proofs.Common.{◌≡◌, not, Option, Some, None, refl}
+use Rattle.std.specs.List.{find}
 use Rattle.las_base.specs.declared.Cell.{Cell}
-use Rattle.grid_box.specs.declared.Broken.{Broken}
 use Rattle.grid_box.specs.Breaches.{or_else}
 use Rattle.grid_box.specs.PipeRules.{named_cells}
 use Rattle.grid_box.specs.Sheets.{ports_spell, y_sheets_match, sheets_join_at}
+use Rattle.grid_box.proofs.BreachLemmas.{none_fails, all_pass}
 use Rattle.surface_rules.specs.Serving.{NoBreachServes}
-
-none_fails : (test : Cell → Bool) (cs : List Cell) → find (λ c. not (test c)) cs ≡ None → list_all test cs ≡ true
-none_fails test [] e = refl
-none_fails test (c ∷ cs) e = at (test c) e (none_fails test cs)
-  where
-    at : (b : Bool) → cond (not b) (Some c) (find (λ c. not (test c)) cs) ≡ None → (find (λ c. not (test c)) cs ≡ None → list_all test cs ≡ true) → (b && list_all test cs) ≡ true
-    at true e ih = ih e
-    at false e ih = cc
-
-all_pass : (test : Cell → Bool) (cs : List Cell) → list_all test cs ≡ true → find (λ c. not (test c)) cs ≡ None
-all_pass test [] e = refl
-all_pass test (c ∷ cs) e =
-    let p = and_parts (test c) (list_all test cs) e in
-    ap (λ b. cond (not b) (Some c) (find (λ c. not (test c)) cs)) p.0 ∙ all_pass test cs p.1
 
 three_none : (a b c : Option Cell) → or_else a 1 (or_else b 2 (or_else c 3 None)) ≡ None → (a ≡ None) × (b ≡ None) × (c ≡ None)
 three_none (Some x) b c e = absurd (cc)

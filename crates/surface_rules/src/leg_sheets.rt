@@ -4,13 +4,12 @@ ghost use Rattle.std.specs.List.{list_all, zip};
 ghost use Rattle.las_base.specs.Axes.{axes, third_axis, has_part};
 ghost use Rattle.las_base.specs.Cells.{IsNear, same_cell};
 ghost use Rattle.las_base.specs.declared.Kind.{Kind};
-ghost use Rattle.grid_box.specs.Legs.{has_leg_along};
 ghost use Rattle.grid_box.specs.PipeRules.{◌==>◌};
 ghost use Rattle.grid_box.specs.Sheets.{agree, is_odd, all_or_none};
 ghost use Rattle.grid_box.specs.Surfaces.{sheets_of};
 ghost use Rattle.surface_rules.specs.LegSheets.{leg_low_cell, leg_spans, leg_spells, leg_matches, legs_spanning, legs_beside, legs_join};
 
-use grid_box::{Leg, Sheets};
+use grid_box::{Leg, Sheets, has_leg_along};
 use las_base::{Axis, Cell, End, Kind, Pauli, Port, Way};
 
 /// The sheets of a flow, seen from a cell.
@@ -134,12 +133,6 @@ impl<'a> LegSheets<'a> {
     {
         self.join_on(legs, Axis::I) && self.join_on(legs, Axis::J) && self.join_on(legs, Axis::K)
     }
-}
-
-fn has_leg_along(legs: &[Leg], axis: Axis) -> bool
-    ensures { result ≡ has_leg_along legs.now axis }
-{
-    legs.iter().any(|leg| leg.axis == axis)
 }
 
 // The low cell of the pipe of a leg that stands at a cell.

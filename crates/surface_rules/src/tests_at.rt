@@ -1,7 +1,6 @@
 // The rules, each as a test of the cell that it names.
 ghost use Rattle.std.specs.Prelude.{◌≡◌, ◌<◌, [], length, slice_index_or};
 ghost use Rattle.las_base.specs.Cells.{IsNear};
-ghost use Rattle.las_base.specs.Jobs.{is_port_place};
 ghost use Rattle.grid_box.specs.Sheets.{ports_spell, y_sheets_match, sheets_join_at};
 ghost use Rattle.grid_box.specs.Surfaces.{sheets_of};
 
@@ -9,12 +8,6 @@ use crate::leg_sheets::LegSheets;
 use grid_box::{Diagram, Sheets};
 use las_base::Cell;
 use las_spec::Job;
-
-fn is_port_place(job: &Job, cell: Cell) -> bool
-    ensures { result ≡ is_port_place job.now cell }
-{
-    job.ports().iter().any(|port| port.place == cell)
-}
 
 #[tactic(auto, using(crate::proofs::EndLemmas::ports_by_legs))]
 pub(crate) fn ports_spell(
@@ -60,7 +53,7 @@ pub(crate) fn sheets_join(
     requires { IsNear cell }
     ensures { result ≡ sheets_join_at job.now diagram.now (sheets_of sheets.now flow) cell }
 {
-    is_port_place(job, cell)
+    job.has_port_at(cell)
         || diagram.is_y(cell)
         || LegSheets { sheets, flow, cell }.join(&diagram.legs(cell))
 }

@@ -1,6 +1,5 @@
-use Rattle.std.proofs.Common.{rules, ◌≡◌, ◌∙◌, ap, not}
+use Rattle.std.proofs.Common.{rules, ◌∙◌, ap, not}
 use Rattle.std.specs.List.{find}
-use Rattle.las_base.specs.declared.Size.{Size}
 use Rattle.grid_box.specs.PipeRules.{named_cells}
 use Rattle.pipe_rules.specs.Tests.{keeps}
 use Rattle.pipe_rules.proofs.first_breaking.Goals as goal

@@ -1,6 +1,6 @@
 -- What is printed for a value is UTF-8, and is read back as that value.
-use Rattle.std.proofs.Common.{◌≡◌, ℕ, suc, ◌<◌, ◌≤◌, ◌^◌, max, Bool, true, false, ◌&&◌, List, [], ◌∷◌, ◌++◌, Some, decimal, IsUtf8, refl, sym, ap, ap₂, ◌∙◌, arith, append-nil}
-use Rattle.std.specs.Prelude.{option_map, option_and_then, ⊤}
+use Rattle.std.proofs.Common.{◌≡◌, ℕ, suc, ◌≤◌, max, Bool, true, false, List, [], ◌∷◌, ◌++◌, Some, decimal, IsUtf8, refl, sym, ap, ap₂, ◌∙◌, arith, append-nil}
+use Rattle.std.specs.Prelude.{option_map, option_and_then}
 use Rattle.std.specs.Ordering.{nat_cmp, match_ordering}
 use Rattle.std.specs.Cmp.Lexicographic.{slice_cmp}
 use Rattle.std.specs.declared.cmp.Ordering.{Ordering}
@@ -18,48 +18,36 @@ use Rattle.json.proofs.Printed.Trees.{value-json_tokens, ArePrintable-json_token
 use Rattle.json.proofs.Printed.Utf8.{are_ascii, IsUtf8-are_ascii, IsUtf8-quoted, IsUtf8-boolean}
 use Rattle.serde_json.specs.Data.{Num, unsigned, negative, float, Data, null, boolean, number, string, array, object, Items, no_items, item, Members, no_members, member, put, depth, items_depth, members_depth}
 use Rattle.serde_json.specs.Read.{of_json, of_items, of_members, max_depth, read}
-use Rattle.serde_json.specs.Written.{number_text, outline, items_outline, members_outline, comma_if, compact_text, items_text, members_text}
+use Rattle.serde_json.specs.Written.{number_text, outline, items_outline, members_outline, has_float, items_have_float, members_have_float, comma_if, compact_text, items_text, members_text}
 use Rattle.serde_json.proofs.Numbers.{number_of-decimal}
 use Rattle.serde_json.proofs.Texts.{print-outline}
 use Rattle.json_shape.specs.Documents.{json_of}
-use Rattle.las_spec.proofs.LineFeed.{by_tokens, json_of-line_feed}
+use Rattle.json_shape.specs.Plain.{IsWhole, joined, is_last, IsPlain, AreItemsPlain, AreMembersPlain, PlainHasNoFloat, PrintedIsReadBack}
+use Rattle.json_shape.proofs.LineFeed.{by_tokens, json_of-line_feed}
 
--- ---- values that have a text of their own
+-- ---- no floats
 
--- a whole number that serde_json reads as one
-abbrev pub IsWhole : Num → Type 0
-IsWhole (unsigned n) = n < 2 ^ 64
-IsWhole (negative z) = ⊥
-IsWhole (float x) = ⊥
+whole_is_no_float : (n : Num) → IsWhole n → has_float (number n) ≡ false
+whole_is_no_float (unsigned n) h = refl
+whole_is_no_float (negative z) h = absurd h
+whole_is_no_float (float x) h = absurd h
 
--- members, and others behind them
-abbrev pub joined : Members → Members → Members
-joined no_members ms = ms
-joined (member k d found) ms = member k d (joined found ms)
+mutual
+  pub no_float : PlainHasNoFloat
+  no_float null h = refl
+  no_float (boolean b) h = refl
+  no_float (number n) h = whole_is_no_float n h
+  no_float (string s) h = refl
+  no_float (array ds) h = no_float_in_items ds h
+  no_float (object ms) h = no_float_in_members no_members ms h
 
--- the key comes behind the keys of all the members
-abbrev pub is_last : List ℕ → Members → Bool
-is_last k no_members = true
-is_last k (member l e ms) = match_ordering (slice_cmp nat_cmp k l) false false true && is_last k ms
+  no_float_in_items : (ds : Items) → AreItemsPlain ds → items_have_float ds ≡ false
+  no_float_in_items no_items h = refl
+  no_float_in_items (item d ds) h = rw (no_float d h.0) (no_float_in_items ds h.1)
 
--- numbers are whole and not negative, texts are UTF-8, and members stand in the order of their keys
-abbrev mutual
-  pub IsPlain : Data → Type 0
-  IsPlain null = ⊤
-  IsPlain (boolean b) = ⊤
-  IsPlain (number n) = IsWhole n
-  IsPlain (string s) = IsUtf8 s
-  IsPlain (array ds) = AreItemsPlain ds
-  IsPlain (object ms) = AreMembersPlain no_members ms
-
-  pub AreItemsPlain : Items → Type 0
-  AreItemsPlain no_items = ⊤
-  AreItemsPlain (item d ds) = IsPlain d × AreItemsPlain ds
-
-  -- of those that come behind other members
-  pub AreMembersPlain : Members → Members → Type 0
-  AreMembersPlain found no_members = ⊤
-  AreMembersPlain found (member k d ms) = IsUtf8 k × (is_last k found ≡ true) × IsPlain d × AreMembersPlain (joined found (member k d no_members)) ms
+  no_float_in_members : (found ms : Members) → AreMembersPlain found ms → members_have_float ms ≡ false
+  no_float_in_members found no_members h = refl
+  no_float_in_members found (member k d ms) h = rw (no_float d h.2) (no_float_in_members (joined found (member k d no_members)) ms h.3)
 
 -- ---- the value read back
 
@@ -192,6 +180,6 @@ mutual
       (IsUtf8-append (quoted k) (58 ∷ (compact_text d ++ rest)) (IsUtf8-quoted k h.0) (ascii_front 58 (compact_text d ++ rest) refl (IsUtf8-append (compact_text d) rest (text_utf8 d h.2) behind)))
 
 -- the compact text of a value, with a line feed behind it, is a document of that value
-pub printed_back : (d : Data) → IsPlain d → depth d ≤ max_depth → json_of (compact_text d ++ 10 ∷ []) ≡ Some d
+pub printed_back : PrintedIsReadBack
 unfolding json_of
 printed_back d h shallow = json_of-line_feed (compact_text d) ∙ rw (is_utf8-from_IsUtf8 (compact_text d) (text_utf8 d h)) (text_back d h shallow)

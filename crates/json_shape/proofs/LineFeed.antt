@@ -1,10 +1,10 @@
 -- A line feed behind a text changes nothing of what is read from it.
-use Rattle.std.proofs.Common.{◌≡◌, ℕ, ◌+◌, ◌-◌, Bool, true, false, cond, ◌&&◌, ◌||◌, ◌==◌, not, nat_eq, nat_lt, List, [], ◌∷◌, ◌++◌, length, take, drop, Option, Some, None, IsUtf8, refl, ap, ap₂, ◌∙◌, subst, arith, length-append, take_at}
+use Rattle.std.proofs.Common.{◌≡◌, ℕ, ◌+◌, ◌-◌, Bool, true, false, cond, ◌&&◌, ◌||◌, ◌==◌, not, nat_eq, nat_lt, List, [], ◌∷◌, ◌++◌, length, take, drop, Option, Some, None, IsUtf8, ◌⊎◌, inl, inr, refl, sym, ap, ap₂, ◌∙◌, subst, arith, length-append, take_at}
 use Rattle.std.specs.Prelude.{option_map, option_and_then}
 use Rattle.std.specs.Char.{is_digit, is_ascii_digit, encode_utf8}
 use Rattle.std.specs.List.{list_all, prefix_len, starts_with}
 use Rattle.std.specs.Str.{is_utf8}
-use Rattle.std.proofs.lemmas.Bool.{and_parts, not-true}
+use Rattle.std.proofs.lemmas.Bool.{and_parts, not-true, cases_Bool, both_ways}
 use Rattle.std.proofs.lemmas.List.{take-append-le, drop-append-le}
 use Rattle.std.proofs.lemmas.List.Sums.{prefix_len-le-length}
 use Rattle.std.proofs.lemmas.Str.{IsUtf8-append, IsUtf8-take, IsCharBoundary-at_seam, IsUtf8-from_is_utf8, is_utf8-from_IsUtf8}
@@ -17,7 +17,6 @@ use Rattle.json.proofs.Printed.Utf8.{IsUtf8-are_ascii}
 use Rattle.serde_json.specs.Data.{Data}
 use Rattle.serde_json.specs.Read.{of_json, max_depth, read}
 use Rattle.json_shape.specs.Documents.{json_of}
-use Rattle.las_base.proofs.Same.{same_test}
 
 -- a text with a line feed behind it
 abbrev fed : List ℕ → List ℕ
@@ -205,9 +204,12 @@ utf8_before text u =
     subst IsUtf8 (take_at text (10 ∷ []) (length text) refl) (IsUtf8-take (fed text) (length text) u (IsCharBoundary-at_seam (fed text) text (10 ∷ []) refl line_feed_utf8))
 
 utf8_fed : (text : List ℕ) → is_utf8 (fed text) ≡ is_utf8 text
-utf8_fed text =
-    same_test (is_utf8 (fed text)) (is_utf8 text) (λ e. is_utf8-from_IsUtf8 text (utf8_before text (IsUtf8-from_is_utf8 (fed text) e)))
-    (λ e. is_utf8-from_IsUtf8 (fed text) (IsUtf8-append text (10 ∷ []) (IsUtf8-from_is_utf8 text e) line_feed_utf8))
+utf8_fed text = by_test (cases_Bool (is_utf8 text)) (cases_Bool (is_utf8 (fed text)))
+  where
+    by_test : (is_utf8 text ≡ true) ⊎ (is_utf8 text ≡ false) → (is_utf8 (fed text) ≡ true) ⊎ (is_utf8 (fed text) ≡ false) → is_utf8 (fed text) ≡ is_utf8 text
+    by_test (inl u) f = is_utf8-from_IsUtf8 (fed text) (IsUtf8-append text (10 ∷ []) (IsUtf8-from_is_utf8 text u) line_feed_utf8) ∙ sym u
+    by_test (inr n) (inl u) = absurd (both_ways (is_utf8 text) n (is_utf8-from_IsUtf8 text (utf8_before text (IsUtf8-from_is_utf8 (fed text) u))))
+    by_test (inr n) (inr m) = m ∙ sym n
 
 -- the value of a document is the same with a line feed behind it
 pub json_of-line_feed : (text : List ℕ) → json_of (text ++ 10 ∷ []) ≡ json_of text
