@@ -3,7 +3,7 @@ use Rattle.std.proofs.Common.{◌≡◌, ℕ, suc, ◌<◌, ◌≤◌, Bool, tru
 use Rattle.std.specs.Prelude.{position, option_map, is_none}
 use Rattle.std.specs.Option.{option_or}
 use Rattle.std.specs.List.{list_all, list_any, filter, filter_map}
-use Rattle.std.proofs.lemmas.Bool.{and_parts, leb-true, eqb-true, eq-eqb}
+use Rattle.std.proofs.lemmas.Bool.{and_parts, leb-true}
 use Rattle.std.proofs.lemmas.List.{length-map}
 use Rattle.std.proofs.lemmas.List.Folds.{list_all-map}
 use Rattle.las_base.specs.declared.Pauli.{Pauli}
@@ -13,13 +13,15 @@ use Rattle.las_base.specs.declared.Port.{Port}
 use Rattle.las_base.specs.Axes.{same_axis}
 use Rattle.las_base.specs.Cells.{holds, same_cell}
 use Rattle.las_base.specs.Jobs.{IsTask, task_of, within_limits, port_fits, distinct_cells}
-use Rattle.las_base.proofs.Same.{same_cell-sym, same_test}
+use Rattle.las_base.proofs.Same.{same_cell-sym}
 use Rattle.las_spec.specs.declared.draft.WrittenPort.{WrittenPort}
 use Rattle.las_spec.specs.declared.refusal.SpecRefused.{SpecRefused}
 use Rattle.las_spec.specs.declared.refusal.SpecRefused.TheVariants.{SizeOut, PortCount, PortWay, PortBasis, PortPlace, PortTwice, FlowCount, FlowLength, FlowLetter, ForbiddenPlace, BoxCount, BoxSize, BoxPort}
 use Rattle.las_spec.specs.Written.{Written, port_written}
 use Rattle.las_spec.specs.Refusals.{first_of, unless, is_count, has_bad_basis, fits_at, first_repeat, first_bad_letter, carried, first_bad_port, first_bad_box, port_refusals, flow_refusals, box_refusals, job_refusal, refusal}
 use Rattle.las_spec.specs.Briefs.{IsBrief, brief_of, same_size, once, port_of, letters_of, task_written, brief_written, port_carried}
+use Rattle.las_spec.proofs.Lists.{none_any}
+use Rattle.las_spec.proofs.Distinct.{same_size-is, same_size-sym}
 use Rattle.las_spec.proofs.OnceLemmas.{apart, and_true, apart-push, once-all, once-most, once-some, once-apart, filter-apart, apart-cells, apart-sizes}
 use Rattle.las_spec.proofs.WrittenLemmas.{none_found, ports_written, words_written}
 
@@ -43,16 +45,6 @@ counted most n e =
     let low : 1 ≤ n = leb-true 1 n p.0 in
     let high : n ≤ most = leb-true n most p.1 in
     (omega arith, high)
-
-none_any : {X : Type 0} (test : X → Bool) (xs : List X) → list_all (λ x. not (test x)) xs ≡ true → list_any test xs ≡ false
-none_any test [] h = refl
-none_any test (x ∷ xs) h =
-    let p = and_parts (not (test x)) (list_all (λ x. not (test x)) xs) h in
-    at (test x) p.0 (none_any test xs p.1)
-  where
-    at : (b : Bool) → not b ≡ true → list_any test xs ≡ false → (b || list_any test xs) ≡ false
-    at true e ih = absurd (cc)
-    at false e ih = ih
 
 twice_not : {X : Type 0} (test : X → Bool) (xs : List X) → list_all (λ x. not (not (test x))) xs ≡ true → list_all test xs ≡ true
 twice_not test [] h = refl
@@ -230,21 +222,6 @@ job_in_box own box ports flows forbidden t size none =
       forbidden = kept_hold (holds box) forbidden;
       distinct_forbidden = sym (apart-cells (filter (holds box) forbidden)) ∙ filter-apart same_cell (holds box) forbidden (apart-cells forbidden ∙ t.distinct_forbidden);
     }
-
-same_size-is : (s t : Size) → same_size s t ≡ true → s ≡ t
-same_size-is s t e =
-    let p = and_parts (nat_eq s.i t.i) (nat_eq s.j t.j && nat_eq s.k t.k) e in
-    let q = and_parts (nat_eq s.j t.j) (nat_eq s.k t.k) p.1 in
-    let ei : s.i ≡ t.i = eqb-true s.i t.i p.0 in
-    let ej : s.j ≡ t.j = eqb-true s.j t.j q.0 in
-    let ek : s.k ≡ t.k = eqb-true s.k t.k q.1 in
-    λ x. record { i = ei x; j = ej x; k = ek x }
-
-pub same_size-refl : (s : Size) → same_size s s ≡ true
-same_size-refl s = rw (eq-eqb s.i s.i refl, eq-eqb s.j s.j refl, eq-eqb s.k s.k refl) refl
-
-same_size-sym : (s t : Size) → same_size s t ≡ same_size t s
-same_size-sym s t = same_test _ _ (λ e. rw (same_size-is s t e) (same_size-refl t)) (λ e. rw (same_size-is t s e) (same_size-refl s))
 
 -- what holds of all boxes holds of one among them
 of_listed : (test : Size → Bool) (box : Size) (boxes : List Size) → list_any (same_size box) boxes ≡ true → list_all test boxes ≡ true → test box ≡ true

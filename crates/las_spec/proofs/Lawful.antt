@@ -1,5 +1,5 @@
 -- What a lawful specification writes is refused for nothing, and is that specification.
-use Rattle.std.proofs.Common.{◌≡◌, ℕ, suc, ◌<◌, ◌≤◌, Bool, true, false, ◌&&◌, ◌||◌, not, nat_eq, nat_le, List, [], ◌∷◌, ◌++◌, map, length, Option, Some, None, refl, sym, ap, ◌∙◌, arith}
+use Rattle.std.proofs.Common.{◌≡◌, ℕ, suc, ◌<◌, ◌≤◌, Bool, true, false, ◌&&◌, ◌||◌, not, nat_eq, nat_le, List, [], ◌∷◌, ◌++◌, map, length, Option, Some, None, refl, ap, ◌∙◌, arith}
 use Rattle.std.specs.Prelude.{option_map, is_none, position, Ok, ⊤}
 use Rattle.std.specs.List.{list_all, list_any, filter_map}
 use Rattle.std.proofs.lemmas.Bool.{and_parts, and_from, le-leb}
@@ -18,7 +18,8 @@ use Rattle.las_spec.specs.Written.{Written, port_written, written_by}
 use Rattle.las_spec.specs.Refusals.{first_of, unless, is_count, has_bad_basis, fits_at, first_repeat, first_bad_letter, carried, first_bad_port, first_bad_box, port_refusals, flow_refusals, job_refusals, box_refusals, job_refusal, refusal}
 use Rattle.las_spec.specs.Briefs.{Brief, IsBrief, brief_of, once, same_size, port_of, letters_of, port_carried, judged, job_given, spec_given, task_written, brief_written}
 use Rattle.las_spec.proofs.Lists.{all_of_each, all_so, no_position, no_position_made, map_back, filter_back}
-use Rattle.las_spec.proofs.Distinct.{distinct, apart, first_is_new, first_not_seen, rest_is_apart, same_size-refl, distinct-cells, cells_once, sizes_once}
+use Rattle.las_spec.proofs.OnceLemmas.{apart, apart-cells}
+use Rattle.las_spec.proofs.Distinct.{unseen, first_is_new, first_not_seen, rest_is_apart, same_size-refl, cells_once, sizes_once}
 use Rattle.las_spec.proofs.Members.{brief_writes}
 
 -- ---- rows of the table
@@ -43,10 +44,10 @@ counted most xs h = and_from (nat_le 1 (length xs)) (nat_le (length xs) most) (l
 twice_not : (b : Bool) → b ≡ true → not (not b) ≡ true
 twice_not b e = rw e refl
 
-no_repeat : (before : List Cell) (m : ℕ) (cs : List Cell) → apart same_cell before cs ≡ true → distinct same_cell cs ≡ true → first_repeat before m cs ≡ None
+no_repeat : (before : List Cell) (m : ℕ) (cs : List Cell) → unseen same_cell before cs ≡ true → apart same_cell cs ≡ true → first_repeat before m cs ≡ None
 no_repeat before m [] e d = refl
 no_repeat before m (c ∷ cs) e d =
-    let p = and_parts (not (list_any (same_cell c) cs)) (distinct same_cell cs) d in
+    let p = and_parts (not (list_any (same_cell c) cs)) (apart same_cell cs) d in
     rw (no_position (same_cell c) before (first_is_new same_cell same_cell-sym before c cs e)) (no_repeat (before ++ c ∷ []) (suc m) cs (rest_is_apart same_cell same_cell-sym before c cs e p.0) p.1)
 
 same_places : (ps : List Port) → map (λ p. p.place) (map port_written ps) ≡ map (λ p. p.place) ps
@@ -66,14 +67,14 @@ carried_ports own box ps = map (port_carried own box) ps
 abbrev carried_places : Size → Size → List Port → List Cell
 carried_places own box ps = map (λ p. p.place) (carried_ports own box ps)
 
-no_bad_port : (own box : Size) (before : List Cell) (n : ℕ) (ps : List Port) → list_all (port_fits box) (carried_ports own box ps) ≡ true → apart same_cell before (carried_places own box ps) ≡ true
-    → distinct same_cell (carried_places own box ps) ≡ true → first_bad_port own box before n (map port_written ps) ≡ None
+no_bad_port : (own box : Size) (before : List Cell) (n : ℕ) (ps : List Port) → list_all (port_fits box) (carried_ports own box ps) ≡ true → unseen same_cell before (carried_places own box ps) ≡ true
+    → apart same_cell (carried_places own box ps) ≡ true → first_bad_port own box before n (map port_written ps) ≡ None
 no_bad_port own box before n [] fits e d = refl
 no_bad_port own box before n (p ∷ ps) fits e d =
     let c = carried own box p.place in
     let cs = carried_places own box ps in
     let f = and_parts (port_fits box (port_carried own box p)) (list_all (port_fits box) (carried_ports own box ps)) fits in
-    let q = and_parts (not (list_any (same_cell c) cs)) (distinct same_cell cs) d in
+    let q = and_parts (not (list_any (same_cell c) cs)) (apart same_cell cs) d in
     let new : not (list_any (same_cell c) before) ≡ true = rw (first_not_seen same_cell same_cell-sym before c cs e) refl in
     let fine : (fits_at box (port_written p) c && not (list_any (same_cell c) before)) ≡ true = and_from (fits_at box (port_written p) c) (not (list_any (same_cell c) before)) f.0 new in
     rw fine (no_bad_port own box (before ++ c ∷ []) (suc n) ps f.1 (rest_is_apart same_cell same_cell-sym before c cs e q.0) q.1)
@@ -99,7 +100,7 @@ no_bad_box : (own : Size) (ports : List Port) (n : ℕ) (boxes : List Size) → 
 no_bad_box own ports n [] h = refl
 no_bad_box own ports n (x ∷ xs) h =
     let t = first_listed (TakesPorts own ports) x xs h in
-    rw (no_bad_port own x [] 0 ports t.fit refl (sym (distinct-cells (carried_places own x ports)) ∙ t.places_differ)) (no_bad_box own ports (suc n) xs (rest_listed (TakesPorts own ports) x xs h))
+    rw (no_bad_port own x [] 0 ports t.fit refl (apart-cells (carried_places own x ports) ∙ t.places_differ)) (no_bad_box own ports (suc n) xs (rest_listed (TakesPorts own ports) x xs h))
 
 all_within : (own : Size) (ports : List Port) (boxes : List Size) → ((box : Size) → list_any (same_size box) boxes ≡ true → TakesPorts own ports box) → list_all within_limits boxes ≡ true
 all_within own ports [] h = refl
@@ -130,7 +131,7 @@ port_place_row s ps e = none_mapped PortPlace _ (no_position_made (λ p. not (fi
 port_twice_row : (ps : List Port) → distinct_cells (map (λ p. p.place) ps) ≡ true → option_map (λ x. PortTwice x.1 x.0) (first_repeat [] 0 (map (λ p. p.place) (map port_written ps))) ≡ None
 port_twice_row ps e =
     let cs = map (λ (p : Port). p.place) ps in
-    none_mapped (λ x. PortTwice x.1 x.0) _ (ap (first_repeat [] 0) (same_places ps) ∙ no_repeat [] 0 cs refl (sym (distinct-cells cs) ∙ e))
+    none_mapped (λ x. PortTwice x.1 x.0) _ (ap (first_repeat [] 0) (same_places ps) ∙ no_repeat [] 0 cs refl (apart-cells cs ∙ e))
 
 flow_count_row : (words : List (List Pauli)) → (0 < length words) × (length words ≤ 32) → unless (is_count 32 (length {A = List (Option Pauli)} (map (map Some) words))) FlowCount ≡ None
 flow_count_row words h = holds_so _ FlowCount (ap (is_count 32) (length-map words (map Some)) ∙ counted 32 words h)

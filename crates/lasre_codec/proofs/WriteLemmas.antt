@@ -50,12 +50,10 @@ items_many f [] = refl
 items_many f (n ∷ ns) = ap suc (items_many f ns)
 
 -- between the marks of a sequence they are an array
-pub numbers_sent : (f : ℕ → Data) (n count : ℕ) (old first last new : Log) → Logs old first (seq_begins (Some count)) → AreSent f n first last → n ≡ count → Logs last new seq_ends → SendsValue (array_of (map f (numbers_from 0 count))) old new
-numbers_sent f n count old first last new begun before all ended = (
-  first,
-  subst (λ m. Logs old first (seq_begins (Some m))) (sym (items_many f (numbers_from 0 count) ∙ numbers_len 0 count)) begun,
-  items_sent f (numbers_from 0 count) first last new (subst (λ m. AreSent f m first last) all before) ended,
-)
+pub numbers_sent : (f : ℕ → Data) (n told count : ℕ) (old first last new : Log) → Logs old first (seq_begins (Some told)) → told ≡ count → AreSent f n first last → n ≡ count → Logs last new seq_ends → SendsValue (array_of (map f (numbers_from 0 count))) old new
+numbers_sent f n told count old first last new begun many before all ended =
+    let len : told ≡ items_len (items_of (map f (numbers_from 0 count))) = many ∙ sym (items_many f (numbers_from 0 count) ∙ numbers_len 0 count) in
+    (first, subst (λ m. Logs old first (seq_begins (Some m))) len begun, items_sent f (numbers_from 0 count) first last new (subst (λ m. AreSent f m first last) all before) ended)
 
 -- ---- members
 

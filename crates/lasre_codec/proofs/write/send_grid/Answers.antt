@@ -1,6 +1,5 @@
-use Rattle.std.proofs.Common.{◌≡◌, Some, ap, ◌∙◌, subst, arith}
+use Rattle.std.proofs.Common.{◌≡◌, ap, ◌∙◌, arith}
 use Rattle.std.proofs.lemmas.Result.{on_ok_weaker}
-use Rattle.serde.specs.Event.{Logs, seq_begins}
 use Rattle.las_base.specs.declared.Size.{Size}
 use Rattle.lasre_codec.specs.Documents.{Lasre}
 use Rattle.lasre_codec.specs.Texts.{plane_value, bit_of}
@@ -16,8 +15,6 @@ returns g c =
     let same : c.size-size.result ≡ c.args.parts.now.task.size = c.size-size.ensures.size ∙ ap (λ (l : Lasre). l.task.size) c.parts.view_is in
     let many : c.size-size.result.i ≡ c.args.parts.now.task.size.i = ap (λ (s : Size). s.i) same in
     let all : c.loop-i.i ≡ c.args.parts.now.task.size.i = omega (arith, many, c.loop-i.auto.i-end) in
-    let first = g.S.Serializer.written c.begin_seq.new.self in
-    let last = g.S.Serializer.written c.loop-i.out in
-    let end = g.S.Serializer.written c.end_seq.new.self in
-    let begun = subst (λ n. Logs (g.S.Serializer.written c.args.out.now) first (seq_begins (Some n))) many c.in_ok-begin_seq.ensures in
-    on_ok_weaker c.end_seq.result (numbers_sent (plane_value c.args.parts.now.task.size (bit_of c.args.parts.now c.args.member c.args.flow)) c.loop-i.i (c.args.parts.now.task.size.i) (g.S.Serializer.written c.args.out.now) first last end begun c.loop-i.invariant all) c.end_seq.ensures
+    on_ok_weaker c.end_seq.result
+    (numbers_sent (plane_value c.args.parts.now.task.size (bit_of c.args.parts.now c.args.member c.args.flow)) c.loop-i.i _ (c.args.parts.now.task.size.i) (g.S.Serializer.written c.args.out.now) (g.S.Serializer.written c.begin_seq.new.self) (g.S.Serializer.written c.loop-i.out) (g.S.Serializer.written c.end_seq.new.self)
+    c.in_ok-begin_seq.ensures many c.loop-i.invariant all) c.end_seq.ensures

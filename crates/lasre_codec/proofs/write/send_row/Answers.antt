@@ -1,7 +1,7 @@
-use Rattle.std.proofs.Common.{◌≡◌, Some, ap, ◌∙◌, subst, arith, rules}
+use Rattle.std.proofs.Common.{◌≡◌, ap, ◌∙◌, subst, arith, rules}
 use Rattle.std.specs.Prelude.{if◌then◌else◌}
 use Rattle.std.proofs.lemmas.Result.{on_ok_weaker}
-use Rattle.serde.specs.Event.{Logs, unsigned, seq_begins}
+use Rattle.serde.specs.Event.{Logs, unsigned}
 use Rattle.las_base.specs.declared.Size.{Size}
 use Rattle.lasre_codec.specs.Documents.{Lasre}
 use Rattle.lasre_codec.specs.Texts.{bit_value, bit_of}
@@ -19,8 +19,6 @@ returns g c =
     let same : c.size-size.result ≡ c.args.parts.now.task.size = c.size-size.ensures.size ∙ ap (λ (l : Lasre). l.task.size) c.parts.view_is in
     let many : c.size-size.result.k ≡ c.args.parts.now.task.size.k = ap (λ (s : Size). s.k) same in
     let all : c.loop-k.k ≡ c.args.parts.now.task.size.k = omega (arith, many, c.loop-k.auto.k-end) in
-    let first = g.S.Serializer.written c.begin_seq.new.self in
-    let last = g.S.Serializer.written c.loop-k.out in
-    let end = g.S.Serializer.written c.end_seq.new.self in
-    let begun = subst (λ n. Logs (g.S.Serializer.written c.args.out.now) first (seq_begins (Some n))) many c.in_ok-begin_seq.ensures in
-    on_ok_weaker c.end_seq.result (numbers_sent (λ k. bit_value (bit_of c.args.parts.now c.args.member c.args.flow (record { i = c.args.i; j = c.args.j; k = k }))) c.loop-k.k (c.args.parts.now.task.size.k) (g.S.Serializer.written c.args.out.now) first last end begun c.loop-k.invariant all) c.end_seq.ensures
+    on_ok_weaker c.end_seq.result
+    (numbers_sent (λ k. bit_value (bit_of c.args.parts.now c.args.member c.args.flow (record { i = c.args.i; j = c.args.j; k = k }))) c.loop-k.k _ (c.args.parts.now.task.size.k) (g.S.Serializer.written c.args.out.now) (g.S.Serializer.written c.begin_seq.new.self) (g.S.Serializer.written c.loop-k.out) (g.S.Serializer.written c.end_seq.new.self)
+    c.in_ok-begin_seq.ensures many c.loop-k.invariant all) c.end_seq.ensures
