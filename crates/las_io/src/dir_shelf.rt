@@ -8,6 +8,7 @@ ghost use Rattle.las_io.specs.Streams.{folder_after_fault};
 use crate::stream_fault::StreamFault;
 use crate::{IoBad, Shelf};
 use std::alloc::{AllocError, Global};
+use std::fs;
 use std::fs::{File, OpenFile};
 use std::io::{ErrorKind, Read, Seek, SeekFrom, Write};
 use std::marker::Model;
@@ -73,17 +74,33 @@ impl<R: Files + Drop> DirShelf<R> {
         IoBad::Failed
     }
 
+    // Whether a file stands there. Anything else of that name is a fault before it is opened, since
+    // opening a pipe waits for its other end.
+    fn is_file_at(&self, path: &str) -> Result<bool, StreamFault> {
+        match fs::metadata(&self.system, path) {
+            Ok(told) if told.is_file() => Ok(true),
+            Ok(_) => Err(StreamFault::NoFile),
+            Err(error) if error.kind() == ErrorKind::NotFound => Ok(false),
+            Err(error) => Err(StreamFault::Stream(error)),
+        }
+    }
+
+    fn try_begin(&self, path: &str) -> Result<R::File, StreamFault> {
+        let _replaces = self.is_file_at(path)?;
+        Ok(File::create(&self.system, path)?)
+    }
+
     fn try_fetch(&self, path: &str, at: u64, buf: &mut [u8]) -> Result<Option<usize>, StreamFault>
         ensures { IfOk result (λ answer. IfSome answer (λ n. n ≤ length buf.new)) }
     {
+        if !self.is_file_at(path)? {
+            return Ok(None);
+        }
         let mut file = match File::open(&self.system, path) {
             Ok(file) => file,
             Err(error) if error.kind() == ErrorKind::NotFound => return Ok(None),
             Err(error) => return Err(StreamFault::Stream(error)),
         };
-        if !file.metadata()?.is_file() {
-            return Err(StreamFault::NoFile);
-        }
         file.seek(SeekFrom::Start(at))?;
         let count = read_some(&mut file, buf)?;
         Ok(Some(count))
@@ -158,7 +175,7 @@ impl<R: Files + Drop> Shelf for DirShelf<R> {
         let Ok(name) = String::from_str(self.alloc, name) else {
             return Err(IoBad::Memory);
         };
-        match File::create(&self.system, path.as_str()) {
+        match self.try_begin(path.as_str()) {
             Ok(file) => {
                 self.begun = Some(Begun { file, name });
                 Ok(())
