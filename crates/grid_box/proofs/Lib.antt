@@ -1,5 +1,6 @@
 pub mod ScanLemmas
 pub mod BreachLemmas
+pub mod ReachLemmas
 pub mod LookUpLemmas
 pub mod DrawnLemmas
 pub mod TellLemmas

@@ -5,6 +5,7 @@ pub mod Legs
 pub mod Scans
 pub mod PipeRules
 pub mod Breaches
+pub mod Reach
 pub mod Tests
 pub mod Sheets
 pub mod Surfaces

@@ -3,6 +3,7 @@ ghost use Rattle.grid_box.specs.LookUps.{LookUpsTell};
 ghost use Rattle.grid_box.specs.Scans.{PipeEndsByScan};
 ghost use Rattle.grid_box.specs.PipeRules.{StaysByAxes};
 ghost use Rattle.grid_box.specs.Breaches.{NoBreachIsValid};
+ghost use Rattle.grid_box.specs.Reach.{EndsAreNamed};
 ghost use Rattle.grid_box.specs.Surfaces.{SheetsTell};
 
 /// Drawings of one size with the same look-ups are one: a drawing's order and its look-ups determine it.
@@ -28,4 +29,9 @@ pub fn stays_by_axes()
 /// Sheets in order are one where the same sheets are listed for each flow.
 pub fn sheets_tell()
     ensures { SheetsTell }
+{}
+
+/// Both ends of each pipe, each port's place, each forbidden cell and each Y cell are cells that a rule can name.
+pub fn ends_are_named()
+    ensures { EndsAreNamed }
 {}

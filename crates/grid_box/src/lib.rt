@@ -23,7 +23,10 @@ pub use examples::{
     y_cube_ends_a_leg,
 };
 use las_base::{Axis, Cell, End, Kind, Port, Way};
-pub use laws::{look_ups_tell, no_breach_is_valid, pipe_ends_by_scan, sheets_tell, stays_by_axes};
+pub use laws::{
+    ends_are_named, look_ups_tell, no_breach_is_valid, pipe_ends_by_scan, sheets_tell,
+    stays_by_axes,
+};
 pub use scan::first_failing;
 pub use sheets::Sheets;
 

@@ -13,3 +13,4 @@ pub mod Lawful
 pub mod SpecValues
 pub mod ReadBackLemmas
 pub mod JobLemmas
+pub mod OrderLemmas

@@ -19,7 +19,7 @@ mod text;
 pub use boxes::{job, sweep_order};
 pub use flow_word::FlowWord;
 pub use las_base::Port;
-pub use laws::{job_is_read_back, text_is_read_back};
+pub use laws::{by_volume_is_order, job_is_read_back, text_is_read_back};
 pub use letters::{axis_text, direction_text};
 pub use make::{make_job, make_spec};
 pub use read::{read_job, read_spec};
