@@ -1,0 +1,72 @@
+// Known jobs: the clauses that are given, and values that are decoded.
+use crate::{cnf_vars, decode, encode};
+use cnf_base::{Formula, satisfies};
+use las_base::{Axis, Cell, Kind, Pauli, Port, Size, Way};
+use las_spec::{FlowWord, make_job};
+use std::test::Fail;
+
+const ORIGIN: Cell = Cell { i: 0, j: 0, k: 0 };
+
+const ABOVE: Cell = Cell { i: 0, j: 0, k: 1 };
+
+const LOWER: Port = Port {
+    place: ORIGIN,
+    axis: Axis::K,
+    way: Way::Plus,
+    z_axis: Axis::J,
+};
+
+const UPPER: Port = Port {
+    place: ABOVE,
+    axis: Axis::K,
+    way: Way::Minus,
+    z_axis: Axis::J,
+};
+
+const ONE: Size = Size { i: 1, j: 1, k: 1 };
+
+#[test]
+fn wire_has_33_clauses(rt: HostRuntime) -> Result<(), Fail> {
+    let xx = FlowWord::new(vec![in rt.alloc(); Pauli::X, Pauli::X]?);
+    let zz = FlowWord::new(vec![in rt.alloc(); Pauli::Z, Pauli::Z]?);
+    let job = make_job(rt.alloc(), ONE, &[LOWER, UPPER], &[xx, zz], &[])?;
+    assert_eq!(rt; cnf_vars(&job), 20);
+    let mut formula = Formula::new(rt.alloc(), 20);
+    let layout = encode(&job, &mut formula)?;
+    assert_eq!(rt; formula.len(), 33);
+    assert_eq!(rt; layout.vars(), 20);
+    Ok(())
+}
+
+#[test]
+fn y_port_has_43_clauses(rt: HostRuntime) -> Result<(), Fail> {
+    let y = FlowWord::new(vec![in rt.alloc(); Pauli::Y]?);
+    let job = make_job(rt.alloc(), ONE, &[UPPER], &[y], &[])?;
+    let mut formula = Formula::new(rt.alloc(), cnf_vars(&job));
+    let _ = encode(&job, &mut formula)?;
+    assert_eq!(rt; formula.len(), 43);
+    Ok(())
+}
+
+#[test]
+fn wire_is_decoded(rt: HostRuntime) -> Result<(), Fail> {
+    let xx = FlowWord::new(vec![in rt.alloc(); Pauli::X, Pauli::X]?);
+    let zz = FlowWord::new(vec![in rt.alloc(); Pauli::Z, Pauli::Z]?);
+    let job = make_job(rt.alloc(), ONE, &[LOWER, UPPER], &[xx, zz], &[])?;
+    let mut formula = Formula::new(rt.alloc(), cnf_vars(&job));
+    let layout = encode(&job, &mut formula)?;
+    let mut values = vec![in rt.alloc(); false; layout.vars() as usize]?;
+    for number in [3, 12, 19] {
+        assert!(rt; number < values.len());
+        values[number] = true;
+    }
+    assert_eq!(rt; values.len(), layout.vars() as usize);
+    assert!(rt; satisfies(&formula, &values));
+    let (diagram, sheets) = decode(rt.alloc(), &job, &layout, &values)?;
+    assert_eq!(rt; diagram.pipe(Axis::K, ORIGIN), Some((Kind::X, Kind::X)));
+    assert!(rt;
+        sheets.has(0, Axis::K, ORIGIN, Axis::I) && !sheets.has(0, Axis::K, ORIGIN, Axis::J)
+    );
+    assert!(rt; sheets.has(1, Axis::K, ORIGIN, Axis::J));
+    Ok(())
+}
