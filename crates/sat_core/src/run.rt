@@ -1,0 +1,102 @@
+//! The search's turns. Each propagates. Where a clause is false the search learns from it, or ends refuted at
+//! level 0; else it decides, or ends with a model where each variable has a value. Behind the last lesson of
+//! the budget it goes on only at level 0, where no decision stands.
+
+ghost use Rattle.std.specs.Prelude.{◌≡◌, ◌+◌, ◌^◌, ◌<◌, ◌≤◌, List, None, Option, OnOk, IfOk, IfNone, MatchOption, false, length};
+ghost use Rattle.cnf_base.specs.Literals.{IsCnf};
+ghost use Rattle.cnf_base.specs.Logs.{LogStep};
+ghost use Rattle.clause_arena.specs.Words.{clauses_in};
+ghost use Rattle.sat_core.specs.Outcomes.{HasSolveCause, IsTrueOutcome};
+ghost use Rattle.sat_core.specs.Standing.{HoldsLog};
+ghost use Rattle.sat_core.specs.Ready.{IsReady, turns_left};
+
+use crate::restart::Restarts;
+use crate::search::Search;
+use crate::{Outcome, SolveRefused};
+use cnf_base::{ClauseTake, Formula, LogTake};
+use std::alloc::Global;
+
+impl Search {
+    /// One turn. The answer is an outcome where the search ends.
+    fn turn<L: LogTake>(
+        &mut self,
+        alloc: Global,
+        f: &Formula,
+        budget: u64,
+        restarts: &mut Restarts,
+        log: &mut L,
+    ) -> Result<Option<Outcome>, SolveRefused>
+        requires ready { IsReady self.old }
+        requires lawful { IsCnf f.now }
+        requires vars { self.old.trail.vars ≡ f.now.vars }
+        requires holds { HoldsLog f.now None (L.steps log.old) (clauses_in self.old.arena) self.old.added }
+        requires unbroken { L.broken log.old ≡ false }
+        requires few { self.old.added ≤ budget }
+        requires bounded { budget ≤ 10000000 }
+        requires small { length f.now.clauses + budget + 1 < 2 ^ 64 }
+        requires paced { restarts.old.count ≤ self.old.added }
+        ensures ready { IfOk result (λ end. IfNone end (IsReady self.new)) }
+        ensures vars { IfOk result (λ end. IfNone end (self.new.trail.vars ≡ f.now.vars)) }
+        ensures few { IfOk result (λ end. IfNone end (self.new.added ≤ budget)) }
+        ensures paced { IfOk result (λ end. IfNone end (restarts.new.count ≤ self.new.added)) }
+        ensures falls { IfOk result (λ end. IfNone end (turns_left budget self.new < turns_left budget self.old)) }
+        ensures holds { (first : Option (List LogStep)) → HoldsLog f.now first (L.steps log.old) (clauses_in self.old.arena) self.old.added → IfOk result (λ end. MatchOption end (HoldsLog f.now first (L.steps log.new) (clauses_in self.new.arena) self.new.added) (λ outcome. IsTrueOutcome f.now budget first (L.steps log.new) outcome)) }
+        ensures unbroken { OnOk result (L.broken log.new ≡ false) }
+        ensures cause { HasSolveCause (L.faults log.old) (L.faults log.new) result }
+        ensures goes_on { L.goes_on_from log.new log.old }
+    {
+        if self.added == budget && self.trail.depth() > 0 {
+            return Ok(Some(Outcome::Spent(budget)));
+        }
+        match self.propagate() {
+            Some(conflict) => {
+                if self.trail.depth() == 0 {
+                    self.refute(alloc, f, conflict, log)?;
+                    return Ok(Some(Outcome::Refuted(self.added)));
+                }
+                self.learn_from(alloc, f, conflict, log)?;
+                if restarts.are_due(self.added) {
+                    self.back_to(0);
+                }
+                Ok(None)
+            }
+            None => {
+                if self.decide() {
+                    return Ok(None);
+                }
+                let values = self.values(alloc, f.vars())?;
+                Ok(Some(Outcome::Model(values)))
+            }
+        }
+    }
+
+    /// Turns until the search ends.
+    pub(crate) fn run<L: LogTake>(
+        &mut self,
+        alloc: Global,
+        f: &Formula,
+        budget: u64,
+        log: &mut L,
+    ) -> Result<Outcome, SolveRefused>
+        requires ready { IsReady self.old }
+        requires lawful { IsCnf f.now }
+        requires vars { self.old.trail.vars ≡ f.now.vars }
+        requires holds { HoldsLog f.now (L.steps log.old) (L.steps log.old) (clauses_in self.old.arena) self.old.added }
+        requires unbroken { L.broken log.old ≡ false }
+        requires few { self.old.added ≤ budget }
+        requires bounded { budget ≤ 10000000 }
+        requires small { length f.now.clauses + budget + 1 < 2 ^ 64 }
+        ensures outcome { IfOk result (λ outcome. IsTrueOutcome f.now budget (L.steps log.old) (L.steps log.new) outcome) }
+        ensures unbroken { OnOk result (L.broken log.new ≡ false) }
+        ensures cause { HasSolveCause (L.faults log.old) (L.faults log.new) result }
+        ensures goes_on { L.goes_on_from log.new log.old }
+    {
+        let mut restarts = Restarts::new();
+        'turns: loop {
+            match self.turn(alloc, f, budget, &mut restarts, log)? {
+                Some(outcome) => return Ok(outcome),
+                None => {}
+            }
+        }
+    }
+}
