@@ -1,5 +1,5 @@
 -- The rules of pipes come before those of colours.
-use Rattle.std.proofs.Common.{◌≡◌, ℕ, Option, Some, None, refl, sym}
+use Rattle.std.proofs.Common.{◌≡◌, Option, Some, None, refl, sym}
 use Rattle.std.specs.Option.{option_or}
 use Rattle.las_base.specs.declared.Cell.{Cell}
 use Rattle.las_base.specs.Jobs.{Task}

@@ -1,7 +1,7 @@
 -- What a run answers: its status, and all that it says.
 use Rattle.std.specs.Prelude.{ℕ, List, [], ◌++◌, codes}
 use Rattle.las_top.specs.declared.run.Status.{Status}
-use Rattle.las_top.specs.declared.run.Status.TheVariants.{Good, No, Refused, ReadFault, WriteFault, ShelfFault, Memory}
+use Rattle.las_top.specs.declared.run.Status.TheVariants.{Good, No, Refused, FoundLater, StillOpen, ReadFault, WriteFault, ShelfFault, Memory}
 
 -- an answer: the status, and all that goes to standard output and to standard error
 pub record Answer : Type 0 where
@@ -33,11 +33,19 @@ IsAnswer ShelfFault = ⊥
 IsAnswer Memory = ⊥
 IsAnswer _ = Unit {0}
 
+-- at this status no log is left begun: the shelf did not fail, and memory was not refused
+abbrev pub EndsLogs : Status → Type 0
+EndsLogs ShelfFault = ⊥
+EndsLogs Memory = ⊥
+EndsLogs _ = Unit {0}
+
 -- the number with which the program ends
 abbrev pub number_of : Status → ℕ
 number_of Good = 0
 number_of No = 1
 number_of Refused = 2
+number_of FoundLater = 3
+number_of StillOpen = 4
 number_of ReadFault = 5
 number_of WriteFault = 6
 number_of ShelfFault = 7

@@ -5,3 +5,5 @@ pub mod Findings
 pub mod Runs
 pub mod Audit
 pub mod Commands
+pub mod Sweep
+pub mod Answered

@@ -1,9 +1,7 @@
 -- What a run is answered, by its words, by what came from its source, and by the shelf.
-use Rattle.std.specs.Prelude.{◌≡◌, ◌⊎◌, ℕ, ◌+◌, ◌≤◌, Bool, true, false, ◌&&◌, List, [], ◌∷◌, ◌++◌, length, codes, map, Option, Some, None, IfSome, Result, Ok, Err, String, string_bytes, bytes_eq, if◌then◌else◌}
+use Rattle.std.specs.Prelude.{◌≡◌, ◌⊎◌, ℕ, ◌+◌, ◌≤◌, Bool, true, false, List, ◌++◌, length, codes, Option, Some, None, IfSome, Result, Ok, Err, IsOk}
 use Rattle.std.specs.Io.KnownBytes.{Appends}
-use Rattle.std.specs.declared.alloc.Global.{Global}
 use Rattle.las_io.specs.Moves.{GivesAll, GivesCount, IsAllLeft}
-use Rattle.las_io.specs.Names.{is_lawful_name}
 use Rattle.las_io.specs.Shelves.{Fetches, FetchesCount, File, file_of}
 use Rattle.las_spec.specs.declared.refusal.SpecRefused.{SpecRefused}
 use Rattle.las_spec.specs.Briefs.{Brief, spec_of}
@@ -14,30 +12,18 @@ use Rattle.las_top.specs.Audit.{audit_answer}
 use Rattle.las_top.specs.Check.{check_answer}
 use Rattle.las_top.specs.Spec.{spec_answer}
 
--- ---- words
+-- ---- what is asked
 
--- what the words ask for
+-- what the input alone determines the answer to
 pub data Asked : Type 0 where
   Check : Asked
   Spec : Asked
   Audit : List ℕ → Asked
 
--- what is asked for by one word, and by two
-abbrev pub asked_by_one : List ℕ → Option Asked
-asked_by_one word = if bytes_eq word (codes "check") then Some Check else (if bytes_eq word (codes "spec") then Some Spec else None)
-
-abbrev pub asked_by_two : List ℕ → List ℕ → Option Asked
-asked_by_two word name = if bytes_eq word (codes "audit") && is_lawful_name name then Some (Audit name) else None
-
--- what a list of words asks for, where it is a command
-abbrev pub asked_by : List (List ℕ) → Option Asked
-asked_by (word ∷ []) = asked_by_one word
-asked_by (word ∷ name ∷ []) = asked_by_two word name
-asked_by _ = None
-
--- what the words after the program's name ask for
-abbrev pub asked_of : List (String Global) → Option Asked
-asked_of words = asked_by (map string_bytes words)
+-- a file of the shelf is asked for
+abbrev pub asks_file : Asked → Bool
+asks_file (Audit name) = true
+asks_file _ = false
 
 -- the most bytes of a document
 abbrev pub most_bytes : ℕ
@@ -100,6 +86,13 @@ module _ {S : Type 0} (left : S → Option (List ℕ)) (given : S → ℕ) where
     pub within : length bytes ≤ most_bytes
     pub answered : answers bytes answer
 
+  -- these bytes came, all that the source had, and they give a specification
+  pub record GivesSpec (before after : S) : Type 0 where
+    pub bytes : List ℕ
+    pub came : GivesAll left given before after bytes
+    pub all : IsAllLeft (left before) bytes
+    pub is_spec : IsOk (spec_of bytes)
+
 -- ---- the run
 
 -- of a source and a shelf
@@ -109,19 +102,8 @@ module _ {S H : Type 0} (left : S → Option (List ℕ)) (given : S → ℕ) (fi
   AnswersCommand asked before after shelf shelf' answer =
       (IsTooLong left given before after answer × (shelf' ≡ shelf)) ⊎ AnswersDocument left given (AnswersAsked files finds fetched asked shelf shelf') before after answer
 
-  -- the answer to words: those that are no command are refused, and nothing is read
-  abbrev pub AnswersWords : Option Asked → S → S → H → H → Answer → Type 0
-  AnswersWords None before after shelf shelf' answer = (answer ≡ refused (codes "words")) × (after ≡ before) × (shelf' ≡ shelf)
-  AnswersWords (Some asked) before after shelf shelf' answer = AnswersCommand asked before after shelf shelf' answer
-
 -- the status is that of the answer, and it was said: all of it, and nothing else
 pub record Says (answer : Answer) (status : Status) (out out' err err' : Option (List ℕ)) : Type 0 where
   pub status_is : status ≡ answer.status
   pub out_grows : Appends out out' answer.out
   pub err_grows : Appends err err' answer.err
-
--- there is an answer to the words and to what came, and it was said
-pub record HasAnswered {S H : Type 0} (left : S → Option (List ℕ)) (given : S → ℕ) (files : H → Option (List File)) (finds : H → List ℕ → Bool → Type 0) (fetched : H → ℕ) (words : List (String Global)) (before after : S) (shelf shelf' : H) (status : Status) (out out' err err' : Option (List ℕ)) : Type 0 where
-  pub answer : Answer
-  pub answers : AnswersWords left given files finds fetched (asked_of words) before after shelf shelf' answer
-  pub said : Says answer status out out' err err'

@@ -1,5 +1,5 @@
 // The command `audit`: whether a document solves one of the listed boxes.
-ghost use Rattle.std.specs.Prelude.{◌≡◌, None, IfOk, IsErrOf, IsTrue};
+ghost use Rattle.std.specs.Prelude.{◌≡◌, None, IfOk, IsOk, IsErrOf, IsTrue};
 ghost use Rattle.std.specs.List.{list_all, list_any};
 ghost use Rattle.las_base.specs.Cells.{same_cell};
 ghost use Rattle.las_io.specs.Counts.{Rose};
@@ -186,6 +186,7 @@ pub(crate) fn audit<H: Shelf>(
     requires none_begun { H.begun_name shelf.old ≡ None }
     ensures found { IfOk result (λ f. AnswersSpec H.files H.finds H.given name.now (spec_of bytes.now) shelf.old shelf.new (answer_by f)) }
     ensures shelf_fault { IsErrOf result Unfound.ShelfFault → Rose (H.faults shelf.old) (H.faults shelf.new) }
+    ensures asked { IsErrOf result Unfound.ShelfFault → IsOk (spec_of bytes.now) }
     ensures no_read_fault { IsErrOf result Unfound.ReadFault → ⊥ }
     ensures files { FilesStay (H.files shelf.old) (H.files shelf.new) }
     ensures begun { H.begun_name shelf.new ≡ None }

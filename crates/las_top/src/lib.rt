@@ -7,6 +7,7 @@ mod check;
 mod finding;
 mod run;
 mod spec;
+mod sweep;
 
 pub use run::{Status, run_las};
 
@@ -18,6 +19,8 @@ mod form_tests;
 mod rule_tests;
 #[cfg(test)]
 mod spec_tests;
+#[cfg(test)]
+mod sweep_tests;
 #[cfg(test)]
 mod test_documents;
 #[cfg(test)]

@@ -1,17 +1,22 @@
 // The top call: words, then the source, then the command, then what it says.
-ghost use Rattle.std.specs.Prelude.{◌≡◌, ◌⊎◌, None, IfOk, IfSome, IsErrOf, option_map};
+ghost use Rattle.std.specs.Prelude.{◌≡◌, ◌⊎◌, None, false, IfOk, IsOk, IsErrOf};
 ghost use Rattle.las_io.specs.Counts.{Rose};
 ghost use Rattle.las_io.specs.Shelves.{FilesStay};
-ghost use Rattle.las_top.specs.Answers.{IsAnswer, number_of};
+ghost use Rattle.las_spec.specs.Briefs.{spec_of};
+ghost use Rattle.box_sweep.specs.Solutions.{SolvesInSheets};
+ghost use Rattle.las_top.specs.Answers.{EndsLogs, IsAnswer, number_of};
 ghost use Rattle.las_top.specs.Commands.{IsLawful, command_as};
 ghost use Rattle.las_top.specs.Findings.{answer_by};
-ghost use Rattle.las_top.specs.Runs.{asked_of, AnswersAsked, AnswersCommand, HasAnswered};
+ghost use Rattle.las_top.specs.Answered.{AnswersInput, AsksNoShelf, HasAnswered, IsSentToShelf, ReadsNothing, WritesNoLogs, texts_of};
+ghost use Rattle.las_top.specs.Runs.{AnswersAsked, AnswersCommand, GivesSpec, asks_file};
 
 use crate::audit::audit;
 use crate::check::check;
 use crate::finding::{Finding, Refusal, Unfound, tell};
 use crate::spec::spec;
-use las_io::{ReadRefused, Shelf, Sink, Source, is_lawful_name, read_all};
+use crate::sweep::{bench, sweep_source};
+use las_io::{ReadRefused, Shelf, Sink, Source, read_all};
+use las_words::{Command, WordsRefused, read_words};
 use std::alloc::Global;
 
 /// How a run ends.
@@ -23,6 +28,10 @@ pub enum Status {
     No,
     /// The words or the document are refused, with one line on standard error.
     Refused,
+    /// A diagram is printed, and a box before its own is undecided.
+    FoundLater,
+    /// No diagram is printed, and some box is undecided.
+    StillOpen,
     /// The source failed.
     ReadFault,
     /// One of the sinks failed.
@@ -42,6 +51,8 @@ impl Status {
             Status::Good => 0,
             Status::No => 1,
             Status::Refused => 2,
+            Status::FoundLater => 3,
+            Status::StillOpen => 4,
             Status::ReadFault => 5,
             Status::WriteFault => 6,
             Status::ShelfFault => 7,
@@ -50,9 +61,9 @@ impl Status {
     }
 }
 
-/// A command, as the words name it.
+/// A command whose answer the input determines.
 #[derive(Clone, Copy, PartialEq, Eq, Debug)]
-enum Command<'a> {
+enum Asking<'a> {
     Check,
     Spec,
     /// Of the file of this name.
@@ -62,24 +73,10 @@ enum Command<'a> {
 /// The most bytes of a document.
 pub(crate) const MOST_BYTES: usize = 4_194_304;
 
-fn command_of(words: &[String]) -> Option<Command<'_>>
-    ensures asked { option_map command_as result ≡ asked_of words.now }
-    ensures lawful { IfSome result (λ command. IsLawful (command_as command)) }
-{
-    match words {
-        [word] if word.as_str() == "check" => Some(Command::Check),
-        [word] if word.as_str() == "spec" => Some(Command::Spec),
-        [word, name] if word.as_str() == "audit" && is_lawful_name(name) => {
-            Some(Command::Audit(name))
-        }
-        _ => None,
-    }
-}
-
 // What a command finds in the bytes of the source.
 fn answer<H: Shelf>(
     alloc: Global,
-    command: Command,
+    command: Asking,
     bytes: &[u8],
     shelf: &mut H,
 ) -> Result<Finding, Unfound>
@@ -87,21 +84,23 @@ fn answer<H: Shelf>(
     requires lawful { IsLawful (command_as command) }
     ensures found { IfOk result (λ f. AnswersAsked H.files H.finds H.given (command_as command.entry) shelf.old shelf.new bytes.now (answer_by f)) }
     ensures shelf_fault { IsErrOf result Unfound.ShelfFault → Rose (H.faults shelf.old) (H.faults shelf.new) }
+    ensures asked { IsErrOf result Unfound.ShelfFault → IsOk (spec_of bytes.now) }
+    ensures unasked { asks_file (command_as command.entry) ≡ false → (shelf.new ≡ shelf.old) × (IsErrOf result Unfound.ShelfFault → ⊥) }
     ensures no_read_fault { IsErrOf result Unfound.ReadFault → ⊥ }
     ensures files { FilesStay (H.files shelf.old) (H.files shelf.new) }
     ensures begun { H.begun_name shelf.new ≡ None }
 {
     match command {
-        Command::Check => Ok(check(alloc, bytes)?),
-        Command::Spec => Ok(spec(alloc, bytes)?),
-        Command::Audit(name) => audit(alloc, bytes, name, shelf),
+        Asking::Check => Ok(check(alloc, bytes)?),
+        Asking::Spec => Ok(spec(alloc, bytes)?),
+        Asking::Audit(name) => audit(alloc, bytes, name, shelf),
     }
 }
 
 // What a command finds in what the source gives.
 fn find<S: Source, H: Shelf>(
     alloc: Global,
-    command: Command,
+    command: Asking,
     src: &mut S,
     shelf: &mut H,
 ) -> Result<Finding, Unfound>
@@ -109,8 +108,10 @@ fn find<S: Source, H: Shelf>(
     requires lawful { IsLawful (command_as command) }
     ensures found { IfOk result (λ f. AnswersCommand S.left S.given H.files H.finds H.given (command_as command.entry)
         src.old src.new shelf.old shelf.new (answer_by f)) }
-    ensures read_fault { IsErrOf result Unfound.ReadFault → Rose (S.faults src.old) (S.faults src.new) }
+    ensures read_fault { IsErrOf result Unfound.ReadFault → Rose (S.faults src.old) (S.faults src.new) × (shelf.new ≡ shelf.old) }
     ensures shelf_fault { IsErrOf result Unfound.ShelfFault → Rose (H.faults shelf.old) (H.faults shelf.new) }
+    ensures asked { IsErrOf result Unfound.ShelfFault → GivesSpec S.left S.given src.old src.new }
+    ensures unasked { asks_file (command_as command.entry) ≡ false → (shelf.new ≡ shelf.old) × (IsErrOf result Unfound.ShelfFault → ⊥) }
     ensures files { FilesStay (H.files shelf.old) (H.files shelf.new) }
     ensures begun { H.begun_name shelf.new ≡ None }
 {
@@ -119,6 +120,35 @@ fn find<S: Source, H: Shelf>(
         Err(ReadRefused::TooLong) => Ok(Finding::Refused(Refusal::TooLong)),
         Err(ReadRefused::ReadFault) => Err(Unfound::ReadFault),
         Err(ReadRefused::Memory) => Err(Unfound::Memory),
+    }
+}
+
+// Finds the answer of a command that the input determines, and says it.
+fn find_and_tell<S: Source, K: Sink, E: Sink, H: Shelf>(
+    alloc: Global,
+    command: Asking,
+    src: &mut S,
+    out: &mut K,
+    err: &mut E,
+    shelf: &mut H,
+) -> Status
+    requires none_begun { H.begun_name shelf.old ≡ None }
+    requires lawful { IsLawful (command_as command) }
+    ensures answer { IsAnswer result → AnswersInput S.left S.given H.files H.finds H.given (command_as command.entry) src.old src.new shelf.old shelf.new (K.held out.old) (K.held out.new) (E.held err.old) (E.held err.new) result }
+    ensures files { FilesStay (H.files shelf.old) (H.files shelf.new) }
+    ensures begun { H.begun_name shelf.new ≡ None }
+    ensures read_fault { result ≡ Status.ReadFault → Rose (S.faults src.old) (S.faults src.new) × (shelf.new ≡ shelf.old) }
+    ensures shelf_fault { result ≡ Status.ShelfFault → Rose (H.faults shelf.old) (H.faults shelf.new) }
+    ensures asked { result ≡ Status.ShelfFault → GivesSpec S.left S.given src.old src.new }
+    ensures unasked { asks_file (command_as command.entry) ≡ false → (shelf.new ≡ shelf.old) × (result ≡ Status.ShelfFault → ⊥) }
+    ensures before_fault { (result ≡ Status.ReadFault) ⊎ (result ≡ Status.ShelfFault) → (out.new ≡ out.old) × (err.new ≡ err.old) }
+    ensures write_fault { result ≡ Status.WriteFault → Rose (K.faults out.old) (K.faults out.new) ⊎ Rose (E.faults err.old) (E.faults err.new) }
+{
+    match find(alloc, command, src, shelf) {
+        Ok(finding) => tell(alloc, finding, out, err),
+        Err(Unfound::ReadFault) => Status::ReadFault,
+        Err(Unfound::ShelfFault) => Status::ShelfFault,
+        Err(Unfound::Memory) => Status::Memory,
     }
 }
 
@@ -133,30 +163,38 @@ pub fn run_las<S: Source, K: Sink, E: Sink, H: Shelf>(
 ) -> Status
     requires none_begun { H.begun_name shelf.old ≡ None }
 
-    // The answer to the words and to what came is said: its status, and all that out and err get.
-    ensures answer { IsAnswer result → HasAnswered S.left S.given H.files H.finds H.given words.now
-        src.old src.new shelf.old shelf.new result (K.held out.old) (K.held out.new) (E.held err.old) (E.held err.new) }
+    // The words ask for a command or for nothing, and what is printed is its answer, all of it and nothing else.
+    ensures answer { IsAnswer result → HasAnswered S.left S.given H.files H.finds H.given SolvesInSheets (texts_of words.now)
+        src.old src.new shelf.old shelf.new (K.held out.old) (K.held out.new) (E.held err.old) (E.held err.new) result }
 
-    // At every status nothing is read for words that are refused, the shelf's files are as before, and nothing is
-    // begun on it.
-    ensures nothing_read { asked_of words.now ≡ None → src.new ≡ src.old }
-    ensures shelf_files { FilesStay (H.files shelf.old) (H.files shelf.new) }
-    ensures nothing_begun { H.begun_name shelf.new ≡ None }
+    // At every status the source is as before for a command that does not read it, and for words that are refused, the
+    // shelf is as before for a command that does not ask it, and a command that writes no logs leaves the shelf's files as
+    // they are, and nothing begun. One that writes logs leaves one begun only where the shelf failed or memory was refused.
+    ensures nothing_read { ReadsNothing (texts_of words.now) → src.new ≡ src.old }
+    ensures nothing_begun { EndsLogs result → H.begun_name shelf.new ≡ None }
+    ensures unasked { AsksNoShelf (texts_of words.now) → shelf.new ≡ shelf.old }
+    ensures shelf_files { WritesNoLogs (texts_of words.now) → FilesStay (H.files shelf.old) (H.files shelf.new) × (H.begun_name shelf.new ≡ None) }
 
-    // A fault is answered only where the count of its object rose in this call.
-    ensures read_fault { result ≡ Status.ReadFault → Rose (S.faults src.old) (S.faults src.new) }
+    // A fault is answered only where the count of its object rose in this call, and a fault of the shelf only where the
+    // command was sent to it.
+    ensures read_fault { result ≡ Status.ReadFault → Rose (S.faults src.old) (S.faults src.new) × (out.new ≡ out.old) × (err.new ≡ err.old) × (shelf.new ≡ shelf.old) }
     ensures shelf_fault { result ≡ Status.ShelfFault → Rose (H.faults shelf.old) (H.faults shelf.new) }
-    ensures before_fault { (result ≡ Status.ReadFault) ⊎ (result ≡ Status.ShelfFault) → (out.new ≡ out.old) × (err.new ≡ err.old) }
+    ensures sent { result ≡ Status.ShelfFault → IsSentToShelf S.left S.given (texts_of words.now) src.old src.new }
+    ensures before_shelf_fault { result ≡ Status.ShelfFault → WritesNoLogs (texts_of words.now) → (out.new ≡ out.old) × (err.new ≡ err.old) }
     ensures write_fault { result ≡ Status.WriteFault
         → Rose (K.faults out.old) (K.faults out.new) ⊎ Rose (E.faults err.old) (E.faults err.new) }
 {
-    match command_of(words) {
-        Some(command) => match find(alloc, command, src, shelf) {
-            Ok(finding) => tell(alloc, finding, out, err),
-            Err(Unfound::ReadFault) => Status::ReadFault,
-            Err(Unfound::ShelfFault) => Status::ShelfFault,
-            Err(Unfound::Memory) => Status::Memory,
-        },
-        None => tell(alloc, Finding::Refused(Refusal::Words), out, err),
+    match read_words(alloc, words) {
+        Ok(Command::Sweep { budget }) => sweep_source(alloc, budget, src, out, err, shelf),
+        Ok(Command::Bench { n }) => bench(alloc, n, out, err, shelf),
+        Ok(Command::Check) => find_and_tell(alloc, Asking::Check, src, out, err, shelf),
+        Ok(Command::Spec) => find_and_tell(alloc, Asking::Spec, src, out, err, shelf),
+        Ok(Command::Audit { name }) => {
+            find_and_tell(alloc, Asking::Audit(name.text()), src, out, err, shelf)
+        }
+        Ok(Command::Verify { size: _ }) => tell(alloc, Finding::Refused(Refusal::Words), out, err),
+        Ok(Command::Zx) => tell(alloc, Finding::Refused(Refusal::Words), out, err),
+        Err(WordsRefused::Words) => tell(alloc, Finding::Refused(Refusal::Words), out, err),
+        Err(WordsRefused::Memory) => Status::Memory,
     }
 }

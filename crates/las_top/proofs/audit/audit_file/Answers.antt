@@ -1,4 +1,4 @@
-use Rattle.std.proofs.Common.{◌≡◌, ◌≤◌, length, sym, ap, ◌∙◌, inl, inr, arith}
+use Rattle.std.proofs.Common.{◌≤◌, length, ap, ◌∙◌, inr, arith}
 use Rattle.std.specs.Vec.{vec_len}
 use Rattle.las_top.specs.Audit.{audit_answer}
 use Rattle.las_top.specs.Runs.{most_bytes}

@@ -1,4 +1,4 @@
-use Rattle.std.proofs.Common.{◌≡◌, ◌∙◌, ◌<◌, ◌≤◌, sym, ap, length, arith}
+use Rattle.std.proofs.Common.{◌∙◌, ◌<◌, ◌≤◌, sym, ap, length, arith}
 use Rattle.las_top.proofs.AuditLemmas.{unserved_here, served_here, all_served}
 use Rattle.las_top.proofs.audit.first_unserved.Goals as goal
 
