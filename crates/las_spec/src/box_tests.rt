@@ -1,8 +1,7 @@
-// Specifications of their parts, each refusal alone, and the boxes of a specification.
+// A specification of its parts, and its boxes.
 use super::*;
 use las_base::{Axis, Cell, Pauli, Size, Way};
 use std::alloc::Global;
-use std::process::Abort;
 use std::test::Fail;
 
 fn size(i: u32, j: u32, k: u32) -> Size {
@@ -13,21 +12,21 @@ fn cell(i: u32, j: u32, k: u32) -> Cell {
     Cell { i, j, k }
 }
 
-fn port(place: Cell, way: Way, z_axis: Axis) -> Port {
+fn port(place: Cell, way: Way) -> Port {
     Port {
         place,
         axis: Axis::K,
         way,
-        z_axis,
+        z_axis: Axis::J,
     }
 }
 
 fn up(i: u32, j: u32, k: u32) -> Port {
-    port(cell(i, j, k), Way::Plus, Axis::J)
+    port(cell(i, j, k), Way::Plus)
 }
 
 fn down(i: u32, j: u32, k: u32) -> Port {
-    port(cell(i, j, k), Way::Minus, Axis::J)
+    port(cell(i, j, k), Way::Minus)
 }
 
 // Flows of these lengths, of Z alone.
@@ -37,85 +36,6 @@ fn words(alloc: Global, lengths: &[usize]) -> Result<Vec<FlowWord>, Fail> {
         words.push(FlowWord::new(vec![in alloc; Pauli::Z; *length]?))?;
     }
     Ok(words)
-}
-
-// What `make_spec` refuses, and what `make_job` refuses of the same parts.
-fn refused(
-    alloc: Global,
-    own: Size,
-    ports: &[Port],
-    lengths: &[usize],
-    forbidden: &[Cell],
-    boxes: &[Size],
-) -> Result<(Option<SpecRefused>, Option<SpecRefused>), Fail> {
-    let flows = words(alloc, lengths)?;
-    let spec = make_spec(alloc, own, ports, &flows, forbidden, boxes).err();
-    let job = make_job(alloc, own, ports, &flows, forbidden).err();
-    Ok((spec, job))
-}
-
-#[test]
-fn each_refusal_alone(rt: HostRuntime) -> Result<(), Fail> {
-    let one = size(1, 1, 1);
-    let wire = [up(0, 0, 0), down(0, 0, 1)];
-    let bent = [up(0, 0, 0), port(cell(0, 0, 1), Way::Minus, Axis::K)];
-    let cases: [(Size, &[Port], &[usize], &[Cell], SpecRefused); 8] = [
-        (size(8, 8, 9), &wire, &[2], &[], SpecRefused::SizeOut),
-        (one, &[], &[0], &[], SpecRefused::PortCount),
-        (one, &bent, &[2], &[], SpecRefused::PortBasis(1)),
-        (
-            one,
-            &[up(0, 0, 0), up(0, 0, 1)],
-            &[2],
-            &[],
-            SpecRefused::PortPlace(1),
-        ),
-        (
-            one,
-            &[up(0, 0, 0), up(0, 0, 0)],
-            &[2],
-            &[],
-            SpecRefused::PortTwice(0, 1),
-        ),
-        (one, &wire, &[], &[], SpecRefused::FlowCount),
-        (one, &wire, &[2, 1], &[], SpecRefused::FlowLength(1)),
-        (
-            one,
-            &wire,
-            &[2],
-            &[cell(0, 0, 0), cell(0, 0, 1)],
-            SpecRefused::ForbiddenPlace(1),
-        ),
-    ];
-    for (n, (own, ports, lengths, forbidden, want)) in cases.iter().enumerate() {
-        let refused = refused(rt.alloc(), *own, ports, lengths, forbidden, &[one])?;
-        assert_eq!(rt; refused, (Some(*want), Some(*want)), "at {n}");
-    }
-    Ok(())
-}
-
-#[test]
-fn each_refusal_of_boxes_alone(rt: HostRuntime) -> Result<(), Fail> {
-    let [one, two] = [size(1, 1, 1), size(1, 1, 2)];
-    let apart = [up(0, 0, 0), up(0, 0, 1)];
-    let meeting = [down(0, 0, 2), down(0, 0, 1)];
-    let cases: [(&[Port], &[Size], Option<SpecRefused>); 6] = [
-        (&apart, &[two, size(32, 8, 2)], None),
-        (&apart, &[], Some(SpecRefused::BoxCount)),
-        (
-            &apart,
-            &[two, size(1, 33, 1)],
-            Some(SpecRefused::BoxSize(1)),
-        ),
-        (&apart, &[two, size(0, 1, 1)], Some(SpecRefused::BoxSize(1))),
-        (&apart, &[two, one], Some(SpecRefused::BoxPort(1, 1))),
-        (&meeting, &[two, one], Some(SpecRefused::BoxPort(1, 1))),
-    ];
-    for (n, (ports, boxes, want)) in cases.iter().enumerate() {
-        let refused = refused(rt.alloc(), two, ports, &[2], &[], boxes)?;
-        assert_eq!(rt; refused, (*want, None), "at {n}");
-    }
-    Ok(())
 }
 
 #[test]

@@ -12,16 +12,6 @@ mod sweep;
 pub use run::{Status, run_las};
 
 #[cfg(test)]
-mod audit_tests;
-#[cfg(test)]
-mod form_tests;
-#[cfg(test)]
-mod rule_tests;
-#[cfg(test)]
-mod spec_tests;
-#[cfg(test)]
 mod sweep_tests;
-#[cfg(test)]
-mod test_documents;
 #[cfg(test)]
 mod tests;

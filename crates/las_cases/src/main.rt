@@ -1,0 +1,24 @@
+//! The program `las_cases`: it reads a script of worked cases from standard input, makes each of its runs by
+//! `run_las` over objects in memory, and prints what came of it. A line that is not understood ends it with an
+//! error and that line's number. The head of the crate's `stdin` says what each line does.
+#![tactic(auto)]
+
+mod script;
+mod texts;
+
+use anyhow::{Context, Result};
+use script::Script;
+use std::io::{BufRead, BufReader};
+
+fn main(rt: HostRuntime) -> Result<()> {
+    let alloc = rt.alloc();
+    let mut script = Script::new(alloc, Vec::new(alloc), None);
+    for (number, line) in BufReader::new(alloc, rt.reader())?.lines(alloc).enumerate() {
+        let mut said = String::new(alloc);
+        script
+            .read_line(&line?, &mut said)
+            .context(format_args!("line {}", number.saturating_add(1)))?;
+        rt.print(said)?;
+    }
+    Ok(())
+}

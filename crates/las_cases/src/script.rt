@@ -1,0 +1,227 @@
+// The lines of a script, and what each does.
+use crate::texts::{Named, replaced, text_of};
+use anyhow::{Context, Result, bail, ensure};
+use las_io::{MemShelf, MemSink, MemSource, Shelf, is_lawful_name};
+use las_top::run_las;
+use std::alloc::Global;
+use std::fmt::Write;
+
+/// What a run reads and writes.
+#[derive(Clone, Copy, PartialEq, Eq, Debug)]
+enum Object {
+    Source,
+    Out,
+    Err,
+    Shelf,
+}
+
+/// A script, as far as it has been read.
+#[derive(Drop)]
+pub(crate) struct Script {
+    alloc: Global,
+    texts: Vec<Named>,
+    /// Whether the lines of the last text are being read.
+    in_text: bool,
+    /// How many texts stand for all cases, once one has begun.
+    common: Option<usize>,
+    source: String,
+    /// The files on the shelf. Of two with one name the later counts.
+    files: Vec<Named>,
+    /// How many bytes a call moves at most.
+    most: usize,
+    /// The calls that fail in the next run, by their numbers from 0.
+    fails: Vec<(Object, u64)>,
+    shows_calls: bool,
+    /// What comes on out in the next run is not printed.
+    hides_out: bool,
+    last_out: String,
+}
+
+impl Script {
+    pub(crate) fn new(alloc: Global, texts: Vec<Named>, common: Option<usize>) -> Script {
+        Script {
+            alloc,
+            texts,
+            in_text: false,
+            common,
+            source: String::new(alloc),
+            files: Vec::new(alloc),
+            most: 4096,
+            fails: Vec::new(alloc),
+            shows_calls: false,
+            hides_out: false,
+            last_out: String::new(alloc),
+        }
+    }
+
+    /// Does what the next line says, and puts what is to be printed to the end of `said`.
+    pub(crate) fn read_line(&mut self, line: &str, said: &mut String) -> Result<()> {
+        let (word, rest) = line.split_once(' ').unwrap_or((line, ""));
+        match word {
+            _ if self.in_text => self.read_text(line)?,
+            "" | "#" => {}
+            "text" => {
+                self.in_text = true;
+                self.texts.push(Named::new(self.alloc, rest, "")?)?;
+            }
+            "let" => self.texts.push(Named::parse(self.alloc, rest, '=')?)?,
+            "case" => {
+                self.begin_case();
+                writeln!(said, "\n{line}")?;
+            }
+            "source" => self.source = String::from_str(self.alloc, rest)?,
+            "file" => self.files.push(Named::parse(self.alloc, rest, ' ')?)?,
+            "most" => self.most = rest.parse::<usize>().context("a number of bytes")?,
+            "fails" => self.add_fails(rest)?,
+            "calls" => self.shows_calls = true,
+            "hide" => self.hides_out = true,
+            "run" => self.run(rest, said)?,
+            "fronts" => self.run_fronts(rest, said)?,
+            "keep" => self
+                .texts
+                .push(Named::new(self.alloc, rest, &self.last_out)?)?,
+            "show" => tell(said, rest, &self.replaced(text_of(&self.files, rest)?)?)?,
+            _ => bail!("not understood: {line}"),
+        }
+        Ok(())
+    }
+
+    fn read_text(&mut self, line: &str) -> Result<()> {
+        self.in_text = line != "end";
+        if let Some(last) = self.texts.last_mut()
+            && line != "end"
+        {
+            writeln!(last.text, "{line}")?;
+        }
+        Ok(())
+    }
+
+    fn replaced(&self, text: &str) -> Result<String> {
+        replaced(self.alloc, &self.texts, text, 16)
+    }
+
+    // Of what was set, those texts stay that were named before the first case.
+    fn begin_case(&mut self) {
+        let common = self.common.unwrap_or(self.texts.len());
+        let mut texts = std::mem::replace(&mut self.texts, Vec::new(self.alloc));
+        texts.truncate(common);
+        *self = Script::new(self.alloc, texts, Some(common));
+    }
+
+    // `OBJECT NUMBER NUMBER ..`
+    fn add_fails(&mut self, line: &str) -> Result<()> {
+        let (name, numbers) = line.split_once(' ').context("an object and numbers")?;
+        let object = match name {
+            "source" => Object::Source,
+            "out" => Object::Out,
+            "err" => Object::Err,
+            "shelf" => Object::Shelf,
+            _ => bail!("no object is named {name}"),
+        };
+        for number in numbers.split_whitespace() {
+            self.fails
+                .push((object, number.parse::<u64>().context("a number")?))?;
+        }
+        Ok(())
+    }
+
+    // The calls of an object that fail, counted after `before` others.
+    fn fails_of(&self, object: Object, before: u64) -> Result<Vec<u64>> {
+        let fails = self.fails.iter().filter(|fail| fail.0 == object);
+        let numbers = fails.map(|fail| fail.1.saturating_add(before));
+        Ok(numbers.collect::<Vec<u64>>(self.alloc)?)
+    }
+
+    // One run of `WORDS` or `WORDS with NAME = TEXT`. The files that it names stay as it leaves them.
+    fn run(&mut self, line: &str, said: &mut String) -> Result<()> {
+        let count = self.texts.len();
+        let (words, equation) = line.split_once(" with ").unwrap_or((line, "="));
+        self.texts.push(Named::parse(self.alloc, equation, '=')?)?;
+        let source = self.replaced(&self.source)?;
+        write!(said, "{line}")?;
+        let (out, shelf) = self.play(words, source.as_bytes(), said)?;
+        for word in words.split_whitespace() {
+            if let Some(bytes) = shelf.file(word) {
+                let text = str::from_utf8(bytes).context("a file is not UTF-8")?;
+                self.files.push(Named::new(self.alloc, word, text)?)?;
+            }
+        }
+        self.last_out = String::from_str(self.alloc, str::from_utf8(out.bytes())?)?;
+        self.texts.truncate(count);
+        self.fails.clear();
+        self.hides_out = false;
+        Ok(())
+    }
+
+    // A run over each front of the source. Those are told that do not come out as the one before.
+    fn run_fronts(&self, words: &str, said: &mut String) -> Result<()> {
+        let source = self.replaced(&self.source)?.into_bytes();
+        let mut last = String::new(self.alloc);
+        for count in 0..=source.len() {
+            let mut text = String::new(self.alloc);
+            let _ = self.play(words, &source[..count], &mut text)?;
+            if text != last {
+                write!(said, "{words}, from {count} bytes on{text}")?;
+                last = text;
+            }
+        }
+        Ok(())
+    }
+
+    // Runs the words over this source, tells what came of it, and gives out and the shelf as they stand then.
+    fn play(&self, words: &str, source: &[u8], said: &mut String) -> Result<(MemSink, MemShelf)> {
+        let (alloc, most) = (self.alloc, self.most.max(1));
+        let mut all_words = Vec::new(alloc);
+        for word in words.split_whitespace() {
+            all_words.push(self.replaced(word)?)?;
+        }
+        let fails = self.fails_of(Object::Source, 0)?;
+        let mut src = MemSource::new(source.to_vec(alloc)?, most, fails);
+        let mut out = MemSink::new(alloc, most, self.fails_of(Object::Out, 0)?);
+        let mut err = MemSink::new(alloc, most, self.fails_of(Object::Err, 0)?);
+        let laying = 3u64.saturating_mul(self.files.len() as u64);
+        let fails = self.fails_of(Object::Shelf, laying)?;
+        let mut shelf = MemShelf::new(alloc, Vec::new(alloc), fails);
+        for file in &self.files {
+            lay(&mut shelf, &file.name, &self.replaced(&file.text)?)?;
+        }
+        ensure!(!shelf.begun(), "a file is begun");
+        let status = run_las(alloc, &all_words, &mut src, &mut out, &mut err, &mut shelf).number();
+        writeln!(said, ": {status}")?;
+        if !self.hides_out {
+            tell(said, "out", str::from_utf8(out.bytes())?)?;
+        }
+        tell(said, "err", str::from_utf8(err.bytes())?)?;
+        if self.shows_calls {
+            let [source, out, err] = [src.calls(), out.calls(), err.calls()];
+            let shelf = shelf.calls().saturating_sub(laying);
+            writeln!(
+                said,
+                "  calls: source {source}, out {out}, err {err}, shelf {shelf}"
+            )?;
+        }
+        Ok((out, shelf))
+    }
+}
+
+// Lays a file, in three calls, onto a shelf whose calls do not fail yet.
+fn lay(shelf: &mut MemShelf, name: &str, text: &str) -> Result<()> {
+    let is_lawful = is_lawful_name(name) && !shelf.begun();
+    ensure!(is_lawful, "no file may be named {name}");
+    let is_laid = shelf.begin(name).is_ok()
+        && shelf.append(text.as_bytes()).is_ok()
+        && shelf.finish().is_ok();
+    ensure!(is_laid, "the file {name} cannot be laid");
+    Ok(())
+}
+
+// Each line of a text, after a label; one without its end is followed by ` ..`.
+fn tell(said: &mut String, label: &str, text: &str) -> Result<()> {
+    for line in text.split_inclusive('\n') {
+        write!(said, "  {label}: {line}")?;
+    }
+    if !said.ends_with('\n') {
+        writeln!(said, " ..")?;
+    }
+    Ok(())
+}
