@@ -21,5 +21,3 @@ pub use write::lasre_text;
 
 #[cfg(test)]
 mod read_tests;
-#[cfg(test)]
-mod write_tests;
