@@ -25,10 +25,11 @@ clause_at (c ∷ cs) r = if nat_eq c.place r then c else clause_at cs r
 abbrev pub is_live : List Live → ℕ → Bool
 is_live cs r = list_any (λ c. nat_eq c.place r) cs
 
--- the literals of the clause at a place, and its id
+-- the literals of the clause at a place
 abbrev pub lits_of : List Live → ℕ → List Lit
 lits_of cs r = (clause_at cs r).lits
 
+-- the id of the clause at a place
 abbrev pub id_of : List Live → ℕ → ℕ
 id_of cs r = (clause_at cs r).id
 

@@ -37,10 +37,11 @@ clauses_to zero w e = []
 clauses_to (suc n) w e =
     step (nat_le (8 + (w (e - 8)).0) e) (is_retired (w (e - 8 + 1)).0) (live_at w (e - 8)) (clauses_to n w (e - 8 - (w (e - 8)).0))
 
--- a word of this number, and the word at a place
+-- a word of this number
 abbrev pub word : ℕ → Lit
 word n = record { 0 = n }
 
+-- the word at a place
 abbrev pub word_in : List Lit → ℕ → Lit
 word_in ws i = slice_index_or ws i (word 0)
 

@@ -1,4 +1,4 @@
--- What a search writes when it gives up: so many lessons, each beyond what unit steps see.
+-- What a search writes when it gives up: so many lessons, each beyond what unit steps see. In this order: where a log stands and what may be removed there; what a lesson is; what unit steps fix, and how many lessons are enough; what a reduction removes at least; clauses as numbers; and laws of these.
 use Rattle.std.specs.Prelude.{◌≡◌, ◌↔◌, ◌⊎◌, ℕ, ◌+◌, ◌-◌, ◌*◌, ◌/◌, ◌^◌, ◌<◌, ◌≤◌, min, Bool, true, false, ◌&&◌, ◌||◌, not, nat_eq, nat_lt, nat_le, List, [], ◌∷◌, ◌++◌, map, length, Option, Some, None, if◌then◌else◌, ⊤}
 use Rattle.std.specs.List.{list_all, list_any, count_by, fold, AllByRecursion}
 use Rattle.cnf_base.specs.declared.literal.Lit.{Lit}

@@ -1,7 +1,13 @@
 // What is known of logs and of unit steps, for the crates above to cite.
 ghost use Rattle.cnf_base.specs.Units.{ClosedHidesNothing};
-ghost use Rattle.cnf_base.specs.Logs.{LogsRefute};
+ghost use Rattle.cnf_base.specs.Logs.{AcceptedIsExact, LogsRefute};
 ghost use Rattle.cnf_base.specs.Lessons.{LessonsJoin, ChainsGrow, CodesAreFew, CodesTell, TwinIsAbsorbed};
+
+/// A log is accepted exactly where each of its steps passes in its turn, the last one adds the empty clause,
+/// and no other does.
+pub fn accepted_is_exact()
+    ensures { AcceptedIsExact }
+{}
 
 /// No values satisfy a formula with an accepted log.
 pub fn logs_refute()

@@ -19,8 +19,8 @@ pub use examples::{
 };
 pub use formula::{Formula, satisfies};
 pub use laws::{
-    chains_grow, closed_hides_nothing, codes_are_few, codes_tell, lessons_join, logs_refute,
-    twin_is_absorbed,
+    accepted_is_exact, chains_grow, closed_hides_nothing, codes_are_few, codes_tell, lessons_join,
+    logs_refute, twin_is_absorbed,
 };
 pub use lists::{IdList, LitList, ValueList};
 pub use literal::{Lit, Var};

@@ -1,17 +1,15 @@
 // Single clauses of the table, given to a taker.
-ghost use Rattle.std.specs.Prelude.{◌≡◌, ◌≤◌, ◌<◌, ◌+◌, ◌++◌, [], ◌∷◌, map, length, true, false, not};
-ghost use Rattle.std.specs.List.{filter};
+ghost use Rattle.std.specs.Prelude.{◌≡◌, ◌≤◌, ◌<◌, [], ◌∷◌, true, false, not};
 ghost use Rattle.las_base.specs.Cells.{holds};
 ghost use Rattle.cnf_base.specs.Literals.{are_below};
-ghost use Rattle.cnf_encode.specs.Clauses.{colour_clauses_of, dead_end_clause, kinds_agree, legs_along, not_all_three, shared_normal, spread, y_sheet_clauses_of};
+ghost use Rattle.cnf_encode.specs.Clauses.{colour_clauses_of, kinds_agree, not_all_three, shared_normal, y_sheet_clauses_of};
 ghost use Rattle.cnf_encode.specs.Emits.{Emits};
 ghost use Rattle.cnf_encode.specs.Layouts.{plan_vars};
-ghost use Rattle.cnf_encode.specs.Positions.{AllExist, exists_in, positions_at, is_on, same_position};
+ghost use Rattle.cnf_encode.specs.Positions.{exists_in};
 ghost use Rattle.cnf_encode.specs.Variables.{pipe_literal, y_literal};
 
 use crate::Layout;
-use crate::draft::Draft;
-use crate::positions::{Position, Positions};
+use crate::positions::Position;
 use cnf_base::{ClauseTake, Lit};
 use las_base::{Axis, Cell};
 use std::alloc::AllocError;

@@ -3,7 +3,7 @@ ghost use Rattle.std.specs.Prelude.{◌≡◌, ◌≤◌, ◌<◌, ◌++◌, len
 ghost use Rattle.std.specs.List.{enumerate_from, flat_map};
 ghost use Rattle.las_base.specs.Jobs.{IsTask};
 ghost use Rattle.cnf_encode.specs.Clauses.{clause_table, diagram_clauses, flow_clauses};
-ghost use Rattle.cnf_encode.specs.Emits.{Emits, IsBegun};
+ghost use Rattle.cnf_encode.specs.Emits.{Emits, TookFirstPart};
 ghost use Rattle.cnf_encode.specs.Layouts.{plan_of, plan_vars};
 ghost use Rattle.cnf_encode.specs.Variables.{var_count};
 
@@ -85,7 +85,7 @@ pub fn encode<C: ClauseTake>(job: &Job, to: &mut C) -> Result<Layout, AllocError
     ensures vars { C.var_count to.new ≡ C.var_count to.old }
     ensures took { OnOk result (C.taken to.new ≡ C.taken to.old ++ (clause_table job.now).clauses) }
     ensures layout { IfOk result (λ l. l ≡ plan_of job.now) }
-    ensures begun { OnErr result (IsBegun (C.taken to.old) (C.taken to.new) (clause_table job.now).clauses) }
+    ensures begun { OnErr result (TookFirstPart (C.taken to.old) (C.taken to.new) (clause_table job.now).clauses) }
 {
     let layout = Layout::of(job);
     put_table(to, job, &layout)?;

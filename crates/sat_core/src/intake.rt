@@ -58,7 +58,7 @@ impl Search {
         ensures gains { OnOk result (Gains (clauses_in self.old.arena) id lits.now (clauses_in self.new.arena)) }
         ensures bare { OnOk result (self.new.trail.entries ≡ []) }
         ensures vars { self.new.trail.vars ≡ self.old.trail.vars }
-        ensures added { self.new.added ≡ self.old.added }
+        ensures lessons { self.new.lessons ≡ self.old.lessons }
     {
         let r = self.arena.add(id, lits)?;
         if lits.len() > 1 {
@@ -80,7 +80,7 @@ impl Search {
         ensures broken { IfSome result (λ r. IsBroken self.new r.0) }
         ensures arena { self.new.arena ≡ self.old.arena }
         ensures vars { self.new.trail.vars ≡ self.old.trail.vars }
-        ensures added { self.new.added ≡ self.old.added }
+        ensures lessons { self.new.lessons ≡ self.old.lessons }
     {
         for r in units {
             let lit = self.arena.lits(*r)[0];
@@ -114,7 +114,7 @@ impl Search {
         ensures mirrors { OnOk result (Mirrors (enumerate_from 1 f.now.clauses) (clauses_in self.new.arena)) }
         ensures bare { OnOk result (self.new.trail.entries ≡ []) }
         ensures vars { OnOk result (self.new.trail.vars ≡ self.old.trail.vars) }
-        ensures added { OnOk result (self.new.added ≡ self.old.added) }
+        ensures lessons { OnOk result (self.new.lessons ≡ self.old.lessons) }
     {
         let mut last = vec![in alloc; 0u64; 2 * f.vars() as usize]?;
         let mut once = Vec::new(alloc);
@@ -142,7 +142,7 @@ impl Search {
         ensures broken { IfOk result (λ end. IfSome end (λ r. IsBroken self.new r.0)) }
         ensures mirrors { OnOk result (Mirrors (enumerate_from 1 f.now.clauses) (clauses_in self.new.arena)) }
         ensures vars { OnOk result (self.new.trail.vars ≡ f.now.vars) }
-        ensures added { OnOk result (self.new.added ≡ 0) }
+        ensures lessons { OnOk result (self.new.lessons ≡ 0) }
     {
         let mut units = Vec::new(alloc);
         match self.hold_formula(alloc, f, &mut units)? {

@@ -8,7 +8,7 @@ ghost use Rattle.cnf_base.specs.Logs.{LogStep};
 ghost use Rattle.clause_arena.specs.Words.{clauses_in};
 ghost use Rattle.sat_core.specs.Outcomes.{HasSolveCause, IsTrueOutcome};
 ghost use Rattle.sat_core.specs.Standing.{HoldsLog};
-ghost use Rattle.sat_core.specs.Ready.{IsReady, turns_left};
+ghost use Rattle.sat_core.specs.Ready.{IsReady, IsUnderWay, turns_left};
 
 use crate::restart::Restarts;
 use crate::search::Search;
@@ -26,38 +26,30 @@ impl Search {
         restarts: &mut Restarts,
         log: &mut L,
     ) -> Result<Option<Outcome>, SolveRefused>
-        requires ready { IsReady self.old }
         requires lawful { IsCnf f.now }
-        requires vars { self.old.trail.vars ≡ f.now.vars }
-        requires holds { HoldsLog f.now None (L.steps log.old) (clauses_in self.old.arena) self.old.added }
+        requires under_way { IsUnderWay f.now budget self.old restarts.old }
+        requires holds { HoldsLog f.now None (L.steps log.old) (clauses_in self.old.arena) self.old.lessons }
         requires unbroken { L.broken log.old ≡ false }
-        requires few { self.old.added ≤ budget }
         requires bounded { budget ≤ 10000000 }
         requires small { length f.now.clauses + budget + 1 < 2 ^ 64 }
-        requires paced { restarts.old.count ≤ self.old.added }
-        ensures ready { IfOk result (λ end. IfNone end (IsReady self.new)) }
-        ensures vars { IfOk result (λ end. IfNone end (self.new.trail.vars ≡ f.now.vars)) }
-        ensures few { IfOk result (λ end. IfNone end (self.new.added ≤ budget)) }
-        ensures paced { IfOk result (λ end. IfNone end (restarts.new.count ≤ self.new.added)) }
+        ensures under_way { IfOk result (λ end. IfNone end (IsUnderWay f.now budget self.new restarts.new)) }
         ensures falls { IfOk result (λ end. IfNone end (turns_left budget self.new < turns_left budget self.old)) }
-        ensures holds { (first : Option (List LogStep)) → HoldsLog f.now first (L.steps log.old) (clauses_in self.old.arena) self.old.added → IfOk result (λ end. MatchOption end (HoldsLog f.now first (L.steps log.new) (clauses_in self.new.arena) self.new.added) (λ outcome. IsTrueOutcome f.now budget first (L.steps log.new) outcome)) }
+        ensures holds { (first : Option (List LogStep)) → HoldsLog f.now first (L.steps log.old) (clauses_in self.old.arena) self.old.lessons → IfOk result (λ end. MatchOption end (HoldsLog f.now first (L.steps log.new) (clauses_in self.new.arena) self.new.lessons) (λ outcome. IsTrueOutcome f.now budget first (L.steps log.new) outcome)) }
         ensures unbroken { OnOk result (L.broken log.new ≡ false) }
         ensures cause { HasSolveCause (L.faults log.old) (L.faults log.new) result }
         ensures goes_on { L.goes_on_from log.new log.old }
     {
-        if self.added == budget && self.trail.depth() > 0 {
+        if self.lessons == budget && self.trail.depth() > 0 {
             return Ok(Some(Outcome::Spent(budget)));
         }
         match self.propagate() {
             Some(conflict) => {
                 if self.trail.depth() == 0 {
                     self.refute(alloc, f, conflict, log)?;
-                    return Ok(Some(Outcome::Refuted(self.added)));
+                    return Ok(Some(Outcome::Refuted(self.lessons)));
                 }
                 self.learn_from(alloc, f, conflict, log)?;
-                if restarts.are_due(self.added) {
-                    self.back_to(0);
-                }
+                self.restart(restarts);
                 Ok(None)
             }
             None => {
@@ -81,9 +73,9 @@ impl Search {
         requires ready { IsReady self.old }
         requires lawful { IsCnf f.now }
         requires vars { self.old.trail.vars ≡ f.now.vars }
-        requires holds { HoldsLog f.now (L.steps log.old) (L.steps log.old) (clauses_in self.old.arena) self.old.added }
+        requires holds { HoldsLog f.now (L.steps log.old) (L.steps log.old) (clauses_in self.old.arena) self.old.lessons }
         requires unbroken { L.broken log.old ≡ false }
-        requires few { self.old.added ≤ budget }
+        requires few { self.old.lessons ≤ budget }
         requires bounded { budget ≤ 10000000 }
         requires small { length f.now.clauses + budget + 1 < 2 ^ 64 }
         ensures outcome { IfOk result (λ outcome. IsTrueOutcome f.now budget (L.steps log.old) (L.steps log.new) outcome) }

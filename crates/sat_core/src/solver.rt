@@ -1,7 +1,7 @@
 //! The whole search, from the formula to what it comes to.
 
 ghost use Rattle.std.specs.Prelude.{◌≡◌, ◌+◌, ◌^◌, ◌<◌, ◌≤◌, [], IfOk, IfSome, OnOk, false, length};
-ghost use Rattle.sat_core.specs.Outcomes.{HasSolveCause, IsTrueOutcome};
+ghost use Rattle.sat_core.specs.Outcomes.{HasSolveCause, IsTrueOutcome, StopsAtUnits};
 
 use crate::search::Search;
 use crate::{Outcome, SolveRefused};
@@ -10,6 +10,7 @@ use std::alloc::Global;
 
 /// Searches for values that satisfy the formula, and spends at most the budget of lessons. Each lesson, and
 /// the empty clause of a refutation, is a step of the log.
+#[tactic(auto, using(crate::proofs::StopLemmas::stops_where_ok))]
 pub fn solve<L: LogTake>(
     alloc: Global,
     f: &Formula,
@@ -21,6 +22,7 @@ pub fn solve<L: LogTake>(
     requires no_steps { IfSome (L.steps log.old) (λ steps. steps ≡ []) }
     requires unbroken { L.broken log.old ≡ false }
     ensures outcome { IfOk result (λ outcome. IsTrueOutcome f.now budget (L.steps log.old) (L.steps log.new) outcome) }
+    ensures by_units { IfOk result (StopsAtUnits f.now) }
     ensures unbroken { OnOk result (L.broken log.new ≡ false) }
     ensures cause { HasSolveCause (L.faults log.old) (L.faults log.new) result }
     ensures goes_on { L.goes_on_from log.new log.old }
