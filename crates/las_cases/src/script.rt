@@ -1,5 +1,5 @@
 // The lines of a script, and what each does.
-use crate::texts::{Named, replaced, text_of};
+use crate::texts::{Named, replaced, text_of, without_counts};
 use anyhow::{Context, Result, bail, ensure};
 use las_io::{MemShelf, MemSink, MemSource, Shelf, is_lawful_name};
 use las_top::run_las;
@@ -27,6 +27,8 @@ pub(crate) struct Script {
     source: String,
     /// The files on the shelf. Of two with one name the later counts.
     files: Vec<Named>,
+    /// The names of files that runs leave on the shelf, beside those that their words name.
+    left: Vec<String>,
     /// How many bytes a call moves at most.
     most: usize,
     /// The calls that fail in the next run, by their numbers from 0.
@@ -34,6 +36,8 @@ pub(crate) struct Script {
     shows_calls: bool,
     /// What comes on out in the next run is not printed.
     hides_out: bool,
+    /// Numbers of lessons are printed as `N` in the next run, but for 0.
+    hides_counts: bool,
     last_out: String,
 }
 
@@ -46,10 +50,12 @@ impl Script {
             common,
             source: String::new(alloc),
             files: Vec::new(alloc),
+            left: Vec::new(alloc),
             most: 4096,
             fails: Vec::new(alloc),
             shows_calls: false,
             hides_out: false,
+            hides_counts: false,
             last_out: String::new(alloc),
         }
     }
@@ -71,15 +77,20 @@ impl Script {
             }
             "source" => self.source = String::from_str(self.alloc, rest)?,
             "file" => self.files.push(Named::parse(self.alloc, rest, ' ')?)?,
+            "leaves" => self.left.push(String::from_str(self.alloc, rest)?)?,
             "most" => self.most = rest.parse::<usize>().context("a number of bytes")?,
             "fails" => self.add_fails(rest)?,
             "calls" => self.shows_calls = true,
             "hide" => self.hides_out = true,
+            "some" => self.hides_counts = true,
             "run" => self.run(rest, said)?,
             "fronts" => self.run_fronts(rest, said)?,
             "keep" => self
                 .texts
                 .push(Named::new(self.alloc, rest, &self.last_out)?)?,
+            "fetch" => self
+                .texts
+                .push(Named::new(self.alloc, rest, text_of(&self.files, rest)?)?)?,
             "show" => tell(said, rest, &self.replaced(text_of(&self.files, rest)?)?)?,
             _ => bail!("not understood: {line}"),
         }
@@ -132,7 +143,7 @@ impl Script {
         Ok(numbers.collect::<Vec<u64>>(self.alloc)?)
     }
 
-    // One run of `WORDS` or `WORDS with NAME = TEXT`. The files that it names stay as it leaves them.
+    // One run of `WORDS` or `WORDS with NAME = TEXT`.
     fn run(&mut self, line: &str, said: &mut String) -> Result<()> {
         let count = self.texts.len();
         let (words, equation) = line.split_once(" with ").unwrap_or((line, "="));
@@ -140,16 +151,28 @@ impl Script {
         let source = self.replaced(&self.source)?;
         write!(said, "{line}")?;
         let (out, shelf) = self.play(words, source.as_bytes(), said)?;
-        for word in words.split_whitespace() {
-            if let Some(bytes) = shelf.file(word) {
-                let text = str::from_utf8(bytes).context("a file is not UTF-8")?;
-                self.files.push(Named::new(self.alloc, word, text)?)?;
-            }
+        for name in words.split_whitespace() {
+            self.leave(&shelf, name)?;
         }
+        let names = std::mem::replace(&mut self.left, Vec::new(self.alloc));
+        for name in &names {
+            self.leave(&shelf, name)?;
+        }
+        self.left = names;
         self.last_out = String::from_str(self.alloc, str::from_utf8(out.bytes())?)?;
         self.texts.truncate(count);
         self.fails.clear();
         self.hides_out = false;
+        self.hides_counts = false;
+        Ok(())
+    }
+
+    // The file of this name stays as it stands on the shelf.
+    fn leave(&mut self, shelf: &MemShelf, name: &str) -> Result<()> {
+        if let Some(bytes) = shelf.file(name) {
+            let text = str::from_utf8(bytes).context("a file is not UTF-8")?;
+            self.files.push(Named::new(self.alloc, name, text)?)?;
+        }
         Ok(())
     }
 
@@ -168,40 +191,69 @@ impl Script {
         Ok(())
     }
 
-    // Runs the words over this source, tells what came of it, and gives out and the shelf as they stand then.
-    fn play(&self, words: &str, source: &[u8], said: &mut String) -> Result<(MemSink, MemShelf)> {
-        let (alloc, most) = (self.alloc, self.most.max(1));
-        let mut all_words = Vec::new(alloc);
+    // The words of a run, each with what stands for it.
+    fn words(&self, words: &str) -> Result<Vec<String>> {
+        let mut all = Vec::new(self.alloc);
         for word in words.split_whitespace() {
-            all_words.push(self.replaced(word)?)?;
+            all.push(self.replaced(word)?)?;
         }
-        let fails = self.fails_of(Object::Source, 0)?;
-        let mut src = MemSource::new(source.to_vec(alloc)?, most, fails);
-        let mut out = MemSink::new(alloc, most, self.fails_of(Object::Out, 0)?);
-        let mut err = MemSink::new(alloc, most, self.fails_of(Object::Err, 0)?);
-        let laying = 3u64.saturating_mul(self.files.len() as u64);
-        let fails = self.fails_of(Object::Shelf, laying)?;
-        let mut shelf = MemShelf::new(alloc, Vec::new(alloc), fails);
+        Ok(all)
+    }
+
+    fn sink(&self, object: Object) -> Result<MemSink> {
+        let fails = self.fails_of(object, 0)?;
+        Ok(MemSink::new(self.alloc, self.most.max(1), fails))
+    }
+
+    // How many calls lay the files onto the shelf.
+    fn laying(&self) -> u64 {
+        3u64.saturating_mul(self.files.len() as u64)
+    }
+
+    fn shelf(&self) -> Result<MemShelf> {
+        let fails = self.fails_of(Object::Shelf, self.laying())?;
+        let mut shelf = MemShelf::new(self.alloc, Vec::new(self.alloc), fails);
         for file in &self.files {
             lay(&mut shelf, &file.name, &self.replaced(&file.text)?)?;
         }
+        Ok(shelf)
+    }
+
+    // Runs the words over this source, tells what came of it, and gives out and the shelf as they stand then.
+    fn play(&self, words: &str, source: &[u8], said: &mut String) -> Result<(MemSink, MemShelf)> {
+        let words = self.words(words)?;
+        let fails = self.fails_of(Object::Source, 0)?;
+        let mut src = MemSource::new(source.to_vec(self.alloc)?, self.most.max(1), fails);
+        let mut out = self.sink(Object::Out)?;
+        let mut err = self.sink(Object::Err)?;
+        let mut shelf = self.shelf()?;
         ensure!(!shelf.begun(), "a file is begun");
-        let status = run_las(alloc, &all_words, &mut src, &mut out, &mut err, &mut shelf).number();
+        let status = run_las(self.alloc, &words, &mut src, &mut out, &mut err, &mut shelf).number();
         writeln!(said, ": {status}")?;
         if !self.hides_out {
             tell(said, "out", str::from_utf8(out.bytes())?)?;
         }
-        tell(said, "err", str::from_utf8(err.bytes())?)?;
+        let report = str::from_utf8(err.bytes())?;
+        if self.hides_counts {
+            tell(said, "err", &without_counts(self.alloc, report)?)?;
+        } else {
+            tell(said, "err", report)?;
+        }
         if self.shows_calls {
-            let [source, out, err] = [src.calls(), out.calls(), err.calls()];
-            let shelf = shelf.calls().saturating_sub(laying);
-            writeln!(
-                said,
-                "  calls: source {source}, out {out}, err {err}, shelf {shelf}"
-            )?;
+            let shelf_calls = shelf.calls().saturating_sub(self.laying());
+            tell_calls(said, [src.calls(), out.calls(), err.calls(), shelf_calls])?;
         }
         Ok((out, shelf))
     }
+}
+
+fn tell_calls(said: &mut String, calls: [u64; 4]) -> Result<()> {
+    let [source, out, err, shelf] = calls;
+    writeln!(
+        said,
+        "  calls: source {source}, out {out}, err {err}, shelf {shelf}"
+    )?;
+    Ok(())
 }
 
 // Lays a file, in three calls, onto a shelf whose calls do not fail yet.

@@ -53,3 +53,18 @@ pub(crate) fn replaced(alloc: Global, texts: &[Named], text: &str, depth: u8) ->
     }
     Ok(all)
 }
+
+/// The lines of a report, with `N` for each number of lessons that is not 0.
+pub(crate) fn without_counts(alloc: Global, report: &str) -> Result<String> {
+    let mut all = String::new(alloc);
+    for line in report.split_inclusive('\n') {
+        match line.split_once(" refuted ") {
+            Some((front, count)) if count != "0\n" => {
+                all.push_str(front)?;
+                all.push_str(" refuted N\n")?;
+            }
+            _ => all.push_str(line)?,
+        }
+    }
+    Ok(all)
+}

@@ -44,14 +44,15 @@ fn boxes_of_a_cnot(rt: HostRuntime) -> Result<(), Fail> {
     let ports = [up(1, 0, 0), up(0, 1, 0), down(1, 0, 3), down(0, 1, 3)];
     let flows = words(alloc, &[4, 4])?;
     let forbidden = [cell(1, 1, 2), cell(0, 0, 0), cell(1, 1, 2)];
-    let boxes = [size(2, 2, 3), size(2, 2, 1), size(2, 2, 3), size(2, 2, 2)];
+    let boxes = [size(2, 2, 3), size(2, 2, 1), size(2, 2, 3), size(2, 3, 2)];
     let spec = make_spec(alloc, size(2, 2, 3), &ports, &flows, &forbidden, &boxes)
         .ok()
         .expect(&rt, "the parts are in order");
     assert_eq!(rt; spec.box_count(), 3);
-    assert_eq!(rt; spec.box_at(2), size(2, 2, 2));
+    assert_eq!(rt; spec.box_at(2), size(2, 3, 2));
     assert_eq!(rt; spec.forbidden(), [cell(1, 1, 2), cell(0, 0, 0)].as_slice());
-    assert_eq!(rt; sweep_order(alloc, &spec)?.as_slice(), [1, 2, 0].as_slice());
+    // Two boxes of one volume stay in their order.
+    assert_eq!(rt; sweep_order(alloc, &spec)?.as_slice(), [1, 0, 2].as_slice());
 
     let job = job(alloc, &spec, 1)?;
     let carried = [up(1, 0, 0), up(0, 1, 0), down(1, 0, 1), down(0, 1, 1)];
@@ -63,20 +64,5 @@ fn boxes_of_a_cnot(rt: HostRuntime) -> Result<(), Fail> {
     assert_eq!(rt; job.flows()[1].letters(), [Pauli::Z; 4].as_slice());
     assert_eq!(rt; job.forbidden(), [cell(0, 0, 0)].as_slice());
     assert_eq!(rt; (spec.rules(), job.rules()), (Rules::One, Rules::One));
-    Ok(())
-}
-
-#[test]
-fn boxes_of_one_volume_stay_in_order(rt: HostRuntime) -> Result<(), Fail> {
-    let alloc = rt.alloc();
-    let flows = words(alloc, &[1])?;
-    let boxes = [size(2, 1, 2), size(2, 2, 1), size(1, 1, 1), size(1, 2, 2)];
-    let spec = make_spec(alloc, size(1, 1, 1), &[up(0, 0, 0)], &flows, &[], &boxes)
-        .ok()
-        .expect(&rt, "the parts are in order");
-    assert_eq!(rt;
-        sweep_order(alloc, &spec)?.as_slice(),
-        [2, 0, 1, 3].as_slice()
-    );
     Ok(())
 }

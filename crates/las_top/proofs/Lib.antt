@@ -1,2 +1,6 @@
 pub mod BreachLemmas
 pub mod AuditLemmas
+pub mod SolutionLemmas
+pub mod ZxLemmas
+pub mod FlowLemmas
+pub mod VerifyLemmas

@@ -11,7 +11,8 @@ use Rattle.las_words.specs.declared.command.Command.TheVariants.{Sweep, Check, A
 use Rattle.las_words.specs.Forms.{IsForm}
 use Rattle.las_top.specs.declared.run.Status.{Status}
 use Rattle.las_top.specs.Answers.{Answer, refused}
-use Rattle.las_top.specs.Runs.{Asked, AnswersCommand, GivesSpec, Says}
+use Rattle.las_top.specs.Runs.{Asked, AnswersCommand, GivesSpec, Says, is_any}
+use Rattle.las_top.specs.Verify.{lists_box}
 use Rattle.las_top.specs.Sweep.{AnswersSweep, IsSwept}
 
 -- the words after the program's name, as texts
@@ -28,8 +29,10 @@ abbrev pub reads_source : Command → Bool
 reads_source (Sweep budget) = true
 reads_source Check = true
 reads_source (Audit name) = true
+reads_source (Verify size) = true
 reads_source Spec = true
-reads_source _ = false
+reads_source Zx = true
+reads_source (Bench n) = false
 
 -- the command writes logs on the shelf
 abbrev pub writes_logs : Command → Bool
@@ -37,9 +40,10 @@ writes_logs (Sweep budget) = true
 writes_logs (Bench n) = true
 writes_logs _ = false
 
--- the command asks the shelf: it writes logs, or fetches a file
+-- the command asks the shelf: it writes logs, or fetches a file or a log
 abbrev pub asks_shelf : Command → Bool
 asks_shelf (Audit name) = true
+asks_shelf (Verify size) = true
 asks_shelf c = writes_logs c
 
 -- the words are a form of no command that reads the source
@@ -62,10 +66,11 @@ pub record HasAnswer (IsIt : Answer → Type 0) (status : Status) (out out' err 
 
 -- of a source: the bytes left, where it tells them, and how many it has given
 module _ {S : Type 0} (left : S → Option (List ℕ)) (given : S → ℕ) where
-  -- what sends a command to the shelf: `sweep` and `audit` a specification that the source gives, `bench` nothing
+  -- what sends a command to the shelf: `sweep` and `audit` a specification that the source gives, `verify` one that lists the box, `bench` nothing
   abbrev pub SendsToShelf : Command → S → S → Type 0
-  SendsToShelf (Sweep budget) src src' = GivesSpec left given src src'
-  SendsToShelf (Audit name) src src' = GivesSpec left given src src'
+  SendsToShelf (Sweep budget) src src' = GivesSpec left given is_any src src'
+  SendsToShelf (Audit name) src src' = GivesSpec left given is_any src src'
+  SendsToShelf (Verify size) src src' = GivesSpec left given (lists_box size) src src'
   SendsToShelf (Bench n) src src' = src' ≡ src
   SendsToShelf _ src src' = ⊥
 
@@ -82,19 +87,19 @@ module _ {S H : Type 0} (left : S → Option (List ℕ)) (given : S → ℕ) (fi
   RefusesWords src src' before after out out' err err' status = Says (refused (codes "words")) status out out' err err' × (src' ≡ src) × (after ≡ before)
 
   -- the answer of a command that the input determines
-  abbrev pub AnswersInput : Asked → S → S → H → H → Option (List ℕ) → Option (List ℕ) → Option (List ℕ) → Option (List ℕ) → Status → Type 0
-  AnswersInput asked src src' before after out out' err err' status = HasAnswer (AnswersCommand left given files finds fetched asked src src' before after) status out out' err err'
+  abbrev pub AnswersInput : (Task → Drawing → Type 0) → Asked → S → S → H → H → Option (List ℕ) → Option (List ℕ) → Option (List ℕ) → Option (List ℕ) → Status → Type 0
+  AnswersInput Solved asked src src' before after out out' err err' status = HasAnswer (AnswersCommand left given files finds fetched Solved asked src src' before after) status out out' err err'
 
-  -- what is answered to a command. `verify` and `zx` have their words, and are refused until they are built
+  -- what is answered to a command
   abbrev pub AnswersTo : (Task → Drawing → Type 0) → Option Command → S → S → H → H → Option (List ℕ) → Option (List ℕ) → Option (List ℕ) → Option (List ℕ) → Status → Type 0
   AnswersTo Solved None src src' before after out out' err err' status = RefusesWords src src' before after out out' err err' status
   AnswersTo Solved (Some (Sweep budget)) src src' before after out out' err err' status = AnswersSweep left given files Solved budget src src' before after out out' err err' status
   AnswersTo Solved (Some (Bench n)) src src' before after out out' err err' status = IsSwept Solved (ghz_of n J) 100000 (files before) (files after) out out' err err' status × (src' ≡ src)
-  AnswersTo Solved (Some Check) src src' before after out out' err err' status = AnswersInput Asked.Check src src' before after out out' err err' status
-  AnswersTo Solved (Some Spec) src src' before after out out' err err' status = AnswersInput Asked.Spec src src' before after out out' err err' status
-  AnswersTo Solved (Some (Audit name)) src src' before after out out' err err' status = AnswersInput (Asked.Audit name) src src' before after out out' err err' status
-  AnswersTo Solved (Some (Verify size)) src src' before after out out' err err' status = RefusesWords src src' before after out out' err err' status
-  AnswersTo Solved (Some Zx) src src' before after out out' err err' status = RefusesWords src src' before after out out' err err' status
+  AnswersTo Solved (Some Check) src src' before after out out' err err' status = AnswersInput Solved Asked.Check src src' before after out out' err err' status
+  AnswersTo Solved (Some Spec) src src' before after out out' err err' status = AnswersInput Solved Asked.Spec src src' before after out out' err err' status
+  AnswersTo Solved (Some (Audit name)) src src' before after out out' err err' status = AnswersInput Solved (Asked.Audit name) src src' before after out out' err err' status
+  AnswersTo Solved (Some (Verify size)) src src' before after out out' err err' status = AnswersInput Solved (Asked.Verify size) src src' before after out out' err err' status
+  AnswersTo Solved (Some Zx) src src' before after out out' err err' status = AnswersInput Solved Asked.Zx src src' before after out out' err err' status
 
   -- the words ask for a command or for nothing, and this is answered
   pub record HasAnswered (Solved : Task → Drawing → Type 0) (words : List (List ℕ)) (src src' : S) (before after : H) (out out' err err' : Option (List ℕ)) (status : Status) : Type 0 where

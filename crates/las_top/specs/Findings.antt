@@ -3,12 +3,13 @@ use Rattle.std.specs.Prelude.{ℕ, List, ◌++◌, codes, string_bytes}
 use Rattle.las_spec.specs.Texts.{refusal_text}
 use Rattle.lasre_codec.specs.Texts as lasre
 use Rattle.las_top.specs.declared.finding.Finding.{Finding}
-use Rattle.las_top.specs.declared.finding.Finding.TheVariants.{Refused, Breach, Valid, OtherJob, Unserved, Solves, Text}
+use Rattle.las_top.specs.declared.finding.Finding.TheVariants.{Refused, Breach, Valid, OtherJob, Unserved, Solves, Accepted, Rejected, Text}
 use Rattle.las_top.specs.declared.finding.Refusal.{Refusal}
-use Rattle.las_top.specs.declared.finding.Refusal.TheVariants.{Words, TooLong, Spec, NoFile, LasreTooLong, Lasre}
+use Rattle.las_top.specs.declared.finding.Refusal.TheVariants.{Words, TooLong, Spec, NoFile, LasreTooLong, Lasre, BoxNotListed, LogTooLong}
 use Rattle.las_top.specs.Answers.{Answer, yes_with, no_with, refused}
 use Rattle.las_top.specs.Audit.{flow_line}
 use Rattle.las_top.specs.Check.{broken_line}
+use Rattle.las_top.specs.Verify.{rejected_line}
 
 -- the reason of a refusal
 abbrev pub reason_by : Refusal → List ℕ
@@ -18,6 +19,8 @@ reason_by (Spec refusal) = refusal_text refusal
 reason_by (NoFile name) = codes "no file " ++ string_bytes name
 reason_by LasreTooLong = codes "lasre too long"
 reason_by (Lasre refusal) = codes "lasre " ++ lasre.refusal_text refusal
+reason_by BoxNotListed = codes "box not listed"
+reason_by LogTooLong = codes "log too long"
 
 -- the answer that a finding gives
 abbrev pub answer_by : Finding → Answer
@@ -27,4 +30,6 @@ answer_by Valid = yes_with (codes "valid\n")
 answer_by OtherJob = no_with (codes "other job\n")
 answer_by (Unserved flow broken) = no_with (flow_line flow broken)
 answer_by Solves = yes_with (codes "solves\n")
+answer_by Accepted = yes_with (codes "accepted\n")
+answer_by (Rejected line why) = no_with (rejected_line line why)
 answer_by (Text text) = yes_with text.items

@@ -2,8 +2,11 @@ pub mod Answers
 pub mod Check
 pub mod Spec
 pub mod Findings
-pub mod Runs
+pub mod Headline
+pub mod Verify
 pub mod Audit
+pub mod Zx
+pub mod Runs
 pub mod Commands
 pub mod Sweep
 pub mod Answered

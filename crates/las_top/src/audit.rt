@@ -1,5 +1,5 @@
 // The command `audit`: whether a document solves one of the listed boxes.
-ghost use Rattle.std.specs.Prelude.{◌≡◌, None, IfOk, IsOk, IsErrOf, IsTrue};
+ghost use Rattle.std.specs.Prelude.{◌≡◌, None, true, IfOk, IsOkAnd, IsErrOf, IsTrue};
 ghost use Rattle.std.specs.List.{list_all, list_any};
 ghost use Rattle.las_base.specs.Cells.{same_cell};
 ghost use Rattle.las_io.specs.Counts.{Rose};
@@ -9,7 +9,9 @@ ghost use Rattle.las_spec.specs.Briefs.{spec_of};
 ghost use Rattle.lasre_codec.specs.Documents.{IsLasre, lasre_as};
 ghost use Rattle.las_top.specs.Audit.{same_port, same_list, same_cells, same_job, same_pauli, is_listed, first_unserved, audit_of, audit_answer};
 ghost use Rattle.las_top.specs.Findings.{answer_by};
-ghost use Rattle.las_top.specs.Runs.{AnswersFile, AnswersSpec};
+ghost use Rattle.las_top.specs.Headline.{HasSolution};
+ghost use Rattle.las_top.specs.declared.run.Status.TheVariants.{Good};
+ghost use Rattle.las_top.specs.Runs.{AnswersFile, AnswersSpec, is_any};
 
 use crate::check::first_breach;
 use crate::finding::{Finding, Refusal, Unfound};
@@ -110,8 +112,8 @@ fn is_listed(alloc: Global, spec: &Spec, other: &Job) -> Result<bool, AllocError
     Ok(false)
 }
 
-// The first flow that its sheets do not serve, with the first breach of a rule of sheets.
-fn first_unserved(lasre: &Lasre) -> Option<(usize, Broken)>
+/// The first flow that its sheets do not serve, with the first breach of a rule of sheets.
+pub(crate) fn first_unserved(lasre: &Lasre) -> Option<(usize, Broken)>
     requires { IsLasre (lasre_as lasre.now.job lasre.now.diagram lasre.now.sheets) }
     ensures { result ≡ first_unserved lasre.now.job lasre.now.diagram lasre.now.sheets 0 lasre.now.job.flows }
 {
@@ -142,7 +144,8 @@ fn audit_of(alloc: Global, spec: &Spec, lasre: &Lasre) -> Result<Finding, AllocE
 
 // What is found of the bytes of a document, for a specification.
 fn audit_bytes(alloc: Global, spec: &Spec, bytes: &[u8]) -> Result<Finding, AllocError>
-    ensures { IfOk result (λ f. answer_by f ≡ audit_answer spec.now bytes.now) }
+    ensures answer { IfOk result (λ f. answer_by f ≡ audit_answer spec.now bytes.now) }
+    ensures solves { IfOk result (λ f. (answer_by f).status ≡ Good → HasSolution bytes.now) }
 {
     match read_lasre(alloc, bytes) {
         Ok(lasre) => audit_of(alloc, spec, &lasre),
@@ -186,7 +189,7 @@ pub(crate) fn audit<H: Shelf>(
     requires none_begun { H.begun_name shelf.old ≡ None }
     ensures found { IfOk result (λ f. AnswersSpec H.files H.finds H.given name.now (spec_of bytes.now) shelf.old shelf.new (answer_by f)) }
     ensures shelf_fault { IsErrOf result Unfound.ShelfFault → Rose (H.faults shelf.old) (H.faults shelf.new) }
-    ensures asked { IsErrOf result Unfound.ShelfFault → IsOk (spec_of bytes.now) }
+    ensures asked { IsErrOf result Unfound.ShelfFault → IsOkAnd (spec_of bytes.now) (λ b. is_any b ≡ true) }
     ensures no_read_fault { IsErrOf result Unfound.ReadFault → ⊥ }
     ensures files { FilesStay (H.files shelf.old) (H.files shelf.new) }
     ensures begun { H.begun_name shelf.new ≡ None }

@@ -9,6 +9,7 @@ ghost use Rattle.las_top.specs.Audit.{flow_line};
 ghost use Rattle.las_top.specs.Check.{broken_line};
 ghost use Rattle.las_top.specs.Findings.{answer_by, reason_by};
 ghost use Rattle.las_top.specs.Runs.{Says};
+ghost use Rattle.las_top.specs.Verify.{rejected_line};
 
 use crate::run::Status;
 use grid_box::Broken;
@@ -27,6 +28,9 @@ pub(crate) enum Finding {
     /// A flow by its number, with the first rule of sheets that is broken for it.
     Unserved(usize, Broken),
     Solves,
+    Accepted,
+    /// The first line of a log that fails, with the number of its reason.
+    Rejected(u64, u8),
     Text(Vec<u8>),
 }
 
@@ -39,6 +43,8 @@ pub(crate) enum Refusal {
     NoFile(String),
     LasreTooLong,
     Lasre(LasreRefused),
+    BoxNotListed,
+    LogTooLong,
 }
 
 /// Why nothing is found.
@@ -74,6 +80,12 @@ fn flow_text(alloc: Global, flow: usize, broken: Broken) -> Result<String, Alloc
     let Broken { rule, cell } = broken;
     let (i, j, k) = (cell.i, cell.j, cell.k);
     format!(in alloc; "flow {flow} broken S{rule} {i} {j} {k}\n")
+}
+
+fn rejected_text(alloc: Global, line: u64, why: u8) -> Result<String, AllocError>
+    ensures { IfOk result (λ text. string_bytes text ≡ rejected_line line why) }
+{
+    format!(in alloc; "rejected {line} why {why}\n")
 }
 
 fn refused_text(alloc: Global, refusal: SpecRefused) -> Result<String, AllocError>
@@ -121,6 +133,8 @@ fn say_refused<E: Sink>(alloc: Global, refusal: Refusal, err: &mut E) -> Status
         Refusal::Words => return say(err, b"refused: words\n", Status::Refused),
         Refusal::TooLong => return say(err, b"refused: too long\n", Status::Refused),
         Refusal::LasreTooLong => return say(err, b"refused: lasre too long\n", Status::Refused),
+        Refusal::BoxNotListed => return say(err, b"refused: box not listed\n", Status::Refused),
+        Refusal::LogTooLong => return say(err, b"refused: log too long\n", Status::Refused),
         Refusal::Spec(refusal) => refused_text(alloc, refusal),
         Refusal::NoFile(name) => no_file_text(alloc, &name),
         Refusal::Lasre(refusal) => lasre_refused_text(alloc, refusal),
@@ -156,6 +170,11 @@ pub(crate) fn tell<K: Sink, E: Sink>(
             Err(AllocError) => Status::Memory,
         },
         Finding::Solves => say(out, b"solves\n", Status::Good),
+        Finding::Accepted => say(out, b"accepted\n", Status::Good),
+        Finding::Rejected(line, why) => match rejected_text(alloc, line, why) {
+            Ok(text) => say(err, text.as_bytes(), Status::No),
+            Err(AllocError) => Status::Memory,
+        },
         Finding::Text(text) => say(out, &text, Status::Good),
     }
 }

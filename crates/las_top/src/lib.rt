@@ -1,5 +1,6 @@
-//! The commands. Callers see one call, `run_las`: it reads the words and the source, writes to two sinks,
-//! and answers a status. Its contract says what each answer means, over any source and any sinks.
+//! The commands. Callers see one call, `run_las`: it reads the words and the source, asks a shelf of files, writes
+//! to two sinks, and answers a status. Its contract says what each answer means, over any of these. The worked
+//! cases try it.
 #![tactic(auto)]
 
 mod audit;
@@ -8,10 +9,7 @@ mod finding;
 mod run;
 mod spec;
 mod sweep;
+mod verify;
+mod zx;
 
 pub use run::{Status, run_las};
-
-#[cfg(test)]
-mod sweep_tests;
-#[cfg(test)]
-mod tests;

@@ -1,20 +1,23 @@
 // The top call: words, then the source, then the command, then what it says.
-ghost use Rattle.std.specs.Prelude.{◌≡◌, ◌⊎◌, None, false, IfOk, IsOk, IsErrOf};
+ghost use Rattle.std.specs.Prelude.{◌≡◌, ◌⊎◌, None, Some, false, true, IfOk, IsOkAnd, IsErrOf};
 ghost use Rattle.las_io.specs.Counts.{Rose};
 ghost use Rattle.las_io.specs.Shelves.{FilesStay};
 ghost use Rattle.las_spec.specs.Briefs.{spec_of};
-ghost use Rattle.box_sweep.specs.Solutions.{SolvesInSheets};
+ghost use Rattle.las_top.specs.Headline.{Solves};
 ghost use Rattle.las_top.specs.Answers.{EndsLogs, IsAnswer, number_of};
-ghost use Rattle.las_top.specs.Commands.{IsLawful, command_as};
+ghost use Rattle.las_top.specs.Commands.{IsInBounds, IsLawful, command_as};
 ghost use Rattle.las_top.specs.Findings.{answer_by};
-ghost use Rattle.las_top.specs.Answered.{AnswersInput, AsksNoShelf, HasAnswered, IsSentToShelf, ReadsNothing, WritesNoLogs, texts_of};
-ghost use Rattle.las_top.specs.Runs.{AnswersAsked, AnswersCommand, GivesSpec, asks_file};
+ghost use Rattle.las_top.specs.Answered.{AnswersInput, AnswersTo, AsksNoShelf, HasAnswered, IsSentToShelf, ReadsNothing, SendsToShelf, WritesNoLogs, asks_shelf, reads_source, texts_of, writes_logs};
+ghost use Rattle.las_top.specs.Runs.{AnswersAsked, AnswersCommand, GivesSpec, asks_file, sends};
 
 use crate::audit::audit;
 use crate::check::check;
 use crate::finding::{Finding, Refusal, Unfound, tell};
 use crate::spec::spec;
 use crate::sweep::{bench, sweep_source};
+use crate::verify::verify;
+use crate::zx::zx;
+use las_base::Size;
 use las_io::{ReadRefused, Shelf, Sink, Source, read_all};
 use las_words::{Command, WordsRefused, read_words};
 use std::alloc::Global;
@@ -66,8 +69,11 @@ impl Status {
 enum Asking<'a> {
     Check,
     Spec,
+    Zx,
     /// Of the file of this name.
     Audit(&'a str),
+    /// Of the log of the box of this size.
+    Verify(Size),
 }
 
 /// The most bytes of a document.
@@ -82,9 +88,9 @@ fn answer<H: Shelf>(
 ) -> Result<Finding, Unfound>
     requires none_begun { H.begun_name shelf.old ≡ None }
     requires lawful { IsLawful (command_as command) }
-    ensures found { IfOk result (λ f. AnswersAsked H.files H.finds H.given (command_as command.entry) shelf.old shelf.new bytes.now (answer_by f)) }
+    ensures found { IfOk result (λ f. AnswersAsked H.files H.finds H.given Solves (command_as command.entry) shelf.old shelf.new bytes.now (answer_by f)) }
     ensures shelf_fault { IsErrOf result Unfound.ShelfFault → Rose (H.faults shelf.old) (H.faults shelf.new) }
-    ensures asked { IsErrOf result Unfound.ShelfFault → IsOk (spec_of bytes.now) }
+    ensures asked { IsErrOf result Unfound.ShelfFault → IsOkAnd (spec_of bytes.now) (λ b. sends (command_as command.entry) b ≡ true) }
     ensures unasked { asks_file (command_as command.entry) ≡ false → (shelf.new ≡ shelf.old) × (IsErrOf result Unfound.ShelfFault → ⊥) }
     ensures no_read_fault { IsErrOf result Unfound.ReadFault → ⊥ }
     ensures files { FilesStay (H.files shelf.old) (H.files shelf.new) }
@@ -93,7 +99,9 @@ fn answer<H: Shelf>(
     match command {
         Asking::Check => Ok(check(alloc, bytes)?),
         Asking::Spec => Ok(spec(alloc, bytes)?),
+        Asking::Zx => Ok(zx(alloc, bytes)?),
         Asking::Audit(name) => audit(alloc, bytes, name, shelf),
+        Asking::Verify(size) => verify(alloc, bytes, size, shelf),
     }
 }
 
@@ -106,11 +114,11 @@ fn find<S: Source, H: Shelf>(
 ) -> Result<Finding, Unfound>
     requires none_begun { H.begun_name shelf.old ≡ None }
     requires lawful { IsLawful (command_as command) }
-    ensures found { IfOk result (λ f. AnswersCommand S.left S.given H.files H.finds H.given (command_as command.entry)
+    ensures found { IfOk result (λ f. AnswersCommand S.left S.given H.files H.finds H.given Solves (command_as command.entry)
         src.old src.new shelf.old shelf.new (answer_by f)) }
     ensures read_fault { IsErrOf result Unfound.ReadFault → Rose (S.faults src.old) (S.faults src.new) × (shelf.new ≡ shelf.old) }
     ensures shelf_fault { IsErrOf result Unfound.ShelfFault → Rose (H.faults shelf.old) (H.faults shelf.new) }
-    ensures asked { IsErrOf result Unfound.ShelfFault → GivesSpec S.left S.given src.old src.new }
+    ensures asked { IsErrOf result Unfound.ShelfFault → GivesSpec S.left S.given (sends (command_as command.entry)) src.old src.new }
     ensures unasked { asks_file (command_as command.entry) ≡ false → (shelf.new ≡ shelf.old) × (IsErrOf result Unfound.ShelfFault → ⊥) }
     ensures files { FilesStay (H.files shelf.old) (H.files shelf.new) }
     ensures begun { H.begun_name shelf.new ≡ None }
@@ -134,12 +142,12 @@ fn find_and_tell<S: Source, K: Sink, E: Sink, H: Shelf>(
 ) -> Status
     requires none_begun { H.begun_name shelf.old ≡ None }
     requires lawful { IsLawful (command_as command) }
-    ensures answer { IsAnswer result → AnswersInput S.left S.given H.files H.finds H.given (command_as command.entry) src.old src.new shelf.old shelf.new (K.held out.old) (K.held out.new) (E.held err.old) (E.held err.new) result }
+    ensures answer { IsAnswer result → AnswersInput S.left S.given H.files H.finds H.given Solves (command_as command.entry) src.old src.new shelf.old shelf.new (K.held out.old) (K.held out.new) (E.held err.old) (E.held err.new) result }
     ensures files { FilesStay (H.files shelf.old) (H.files shelf.new) }
     ensures begun { H.begun_name shelf.new ≡ None }
     ensures read_fault { result ≡ Status.ReadFault → Rose (S.faults src.old) (S.faults src.new) × (shelf.new ≡ shelf.old) }
     ensures shelf_fault { result ≡ Status.ShelfFault → Rose (H.faults shelf.old) (H.faults shelf.new) }
-    ensures asked { result ≡ Status.ShelfFault → GivesSpec S.left S.given src.old src.new }
+    ensures asked { result ≡ Status.ShelfFault → GivesSpec S.left S.given (sends (command_as command.entry)) src.old src.new }
     ensures unasked { asks_file (command_as command.entry) ≡ false → (shelf.new ≡ shelf.old) × (result ≡ Status.ShelfFault → ⊥) }
     ensures before_fault { (result ≡ Status.ReadFault) ⊎ (result ≡ Status.ShelfFault) → (out.new ≡ out.old) × (err.new ≡ err.old) }
     ensures write_fault { result ≡ Status.WriteFault → Rose (K.faults out.old) (K.faults out.new) ⊎ Rose (E.faults err.old) (E.faults err.new) }
@@ -149,6 +157,44 @@ fn find_and_tell<S: Source, K: Sink, E: Sink, H: Shelf>(
         Err(Unfound::ReadFault) => Status::ReadFault,
         Err(Unfound::ShelfFault) => Status::ShelfFault,
         Err(Unfound::Memory) => Status::Memory,
+    }
+}
+
+// Does a command.
+fn obey<S: Source, K: Sink, E: Sink, H: Shelf>(
+    alloc: Global,
+    command: Command,
+    src: &mut S,
+    out: &mut K,
+    err: &mut E,
+    shelf: &mut H,
+) -> Status
+    requires none_begun { H.begun_name shelf.old ≡ None }
+    requires bounds { IsInBounds command }
+    ensures answer { IsAnswer result → AnswersTo S.left S.given H.files H.finds H.given Solves (Some command)
+        src.old src.new shelf.old shelf.new (K.held out.old) (K.held out.new) (E.held err.old) (E.held err.new) result }
+    ensures nothing_read { reads_source command ≡ false → src.new ≡ src.old }
+    ensures nothing_begun { EndsLogs result → H.begun_name shelf.new ≡ None }
+    ensures unasked { asks_shelf command ≡ false → shelf.new ≡ shelf.old }
+    ensures shelf_files { writes_logs command ≡ false → FilesStay (H.files shelf.old) (H.files shelf.new) × (H.begun_name shelf.new ≡ None) }
+    ensures read_fault { result ≡ Status.ReadFault → Rose (S.faults src.old) (S.faults src.new) × (out.new ≡ out.old) × (err.new ≡ err.old) × (shelf.new ≡ shelf.old) }
+    ensures shelf_fault { result ≡ Status.ShelfFault → Rose (H.faults shelf.old) (H.faults shelf.new) }
+    ensures sent { result ≡ Status.ShelfFault → SendsToShelf S.left S.given command src.old src.new }
+    ensures before_shelf_fault { result ≡ Status.ShelfFault → writes_logs command ≡ false → (out.new ≡ out.old) × (err.new ≡ err.old) }
+    ensures write_fault { result ≡ Status.WriteFault → Rose (K.faults out.old) (K.faults out.new) ⊎ Rose (E.faults err.old) (E.faults err.new) }
+{
+    match command {
+        Command::Sweep { budget } => sweep_source(alloc, budget, src, out, err, shelf),
+        Command::Bench { n } => bench(alloc, n, out, err, shelf),
+        Command::Check => find_and_tell(alloc, Asking::Check, src, out, err, shelf),
+        Command::Spec => find_and_tell(alloc, Asking::Spec, src, out, err, shelf),
+        Command::Audit { name } => {
+            find_and_tell(alloc, Asking::Audit(name.text()), src, out, err, shelf)
+        }
+        Command::Verify { size } => {
+            find_and_tell(alloc, Asking::Verify(size), src, out, err, shelf)
+        }
+        Command::Zx => find_and_tell(alloc, Asking::Zx, src, out, err, shelf),
     }
 }
 
@@ -164,7 +210,7 @@ pub fn run_las<S: Source, K: Sink, E: Sink, H: Shelf>(
     requires none_begun { H.begun_name shelf.old ≡ None }
 
     // The words ask for a command or for nothing, and what is printed is its answer, all of it and nothing else.
-    ensures answer { IsAnswer result → HasAnswered S.left S.given H.files H.finds H.given SolvesInSheets (texts_of words.now)
+    ensures answer { IsAnswer result → HasAnswered S.left S.given H.files H.finds H.given Solves (texts_of words.now)
         src.old src.new shelf.old shelf.new (K.held out.old) (K.held out.new) (E.held err.old) (E.held err.new) result }
 
     // At every status the source is as before for a command that does not read it, and for words that are refused, the
@@ -185,15 +231,7 @@ pub fn run_las<S: Source, K: Sink, E: Sink, H: Shelf>(
         → Rose (K.faults out.old) (K.faults out.new) ⊎ Rose (E.faults err.old) (E.faults err.new) }
 {
     match read_words(alloc, words) {
-        Ok(Command::Sweep { budget }) => sweep_source(alloc, budget, src, out, err, shelf),
-        Ok(Command::Bench { n }) => bench(alloc, n, out, err, shelf),
-        Ok(Command::Check) => find_and_tell(alloc, Asking::Check, src, out, err, shelf),
-        Ok(Command::Spec) => find_and_tell(alloc, Asking::Spec, src, out, err, shelf),
-        Ok(Command::Audit { name }) => {
-            find_and_tell(alloc, Asking::Audit(name.text()), src, out, err, shelf)
-        }
-        Ok(Command::Verify { size: _ }) => tell(alloc, Finding::Refused(Refusal::Words), out, err),
-        Ok(Command::Zx) => tell(alloc, Finding::Refused(Refusal::Words), out, err),
+        Ok(command) => obey(alloc, command, src, out, err, shelf),
         Err(WordsRefused::Words) => tell(alloc, Finding::Refused(Refusal::Words), out, err),
         Err(WordsRefused::Memory) => Status::Memory,
     }

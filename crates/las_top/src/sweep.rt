@@ -1,12 +1,12 @@
 // The commands `sweep` and `bench`: the boxes of a specification by volume, up to the first that a diagram fits.
-ghost use Rattle.std.specs.Prelude.{◌≡◌, ◌⊎◌, ◌≢◌, ◌≤◌, None, IsOk};
+ghost use Rattle.std.specs.Prelude.{◌≡◌, ◌⊎◌, ◌≢◌, ◌≤◌, None, true, IsOkAnd};
 ghost use Rattle.las_base.specs.declared.Axis.TheVariants.{J};
 ghost use Rattle.las_io.specs.Counts.{Rose};
 ghost use Rattle.las_spec.specs.Briefs.{spec_of};
-ghost use Rattle.box_sweep.specs.Solutions.{SolvesInSheets};
+ghost use Rattle.las_top.specs.Headline.{Solves};
 ghost use Rattle.las_gen.specs.Ghz.{ghz_of};
 ghost use Rattle.las_top.specs.Answers.{EndsLogs, IsAnswer};
-ghost use Rattle.las_top.specs.Runs.{GivesSpec};
+ghost use Rattle.las_top.specs.Runs.{GivesSpec, is_any};
 ghost use Rattle.las_top.specs.Sweep.{AnswersSweep, IsSwept, IsSweptBy, status_by};
 
 use crate::finding::{Finding, Refusal, tell};
@@ -44,13 +44,14 @@ fn sweep_spec<K: Sink, E: Sink, H: Shelf>(
     requires low { 1 ≤ budget }
     requires high { budget ≤ 10000000 }
     requires none_begun { H.begun_name shelf.old ≡ None }
-    ensures swept { IsAnswer result → IsSwept SolvesInSheets spec.now budget (H.files shelf.old) (H.files shelf.new) (K.held out.old) (K.held out.new) (E.held err.old) (E.held err.new) result }
+    ensures swept { IsAnswer result → IsSwept Solves spec.now budget (H.files shelf.old) (H.files shelf.new) (K.held out.old) (K.held out.new) (E.held err.old) (E.held err.new) result }
     ensures ended { EndsLogs result → H.begun_name shelf.new ≡ None }
     ensures no_refusal { result ≢ Status.Refused }
     ensures no_read_fault { result ≢ Status.ReadFault }
     ensures shelf_fault { result ≡ Status.ShelfFault → Rose (H.faults shelf.old) (H.faults shelf.new) }
     ensures write_fault { result ≡ Status.WriteFault → Rose (K.faults out.old) (K.faults out.new) ⊎ Rose (E.faults err.old) (E.faults err.new) }
 {
+    let _ = spec.size();
     match sweep(alloc, spec, budget, out, err, shelf) {
         Ok(ending) => status_by(ending),
         Err(SweepRefused::WriteFault) => Status::WriteFault,
@@ -71,11 +72,11 @@ fn sweep_bytes<K: Sink, E: Sink, H: Shelf>(
     requires low { 1 ≤ budget }
     requires high { budget ≤ 10000000 }
     requires none_begun { H.begun_name shelf.old ≡ None }
-    ensures swept { IsAnswer result → IsSweptBy H.files SolvesInSheets budget (spec_of bytes.now) shelf.old shelf.new (K.held out.old) (K.held out.new) (E.held err.old) (E.held err.new) result }
+    ensures swept { IsAnswer result → IsSweptBy H.files Solves budget (spec_of bytes.now) shelf.old shelf.new (K.held out.old) (K.held out.new) (E.held err.old) (E.held err.new) result }
     ensures ended { EndsLogs result → H.begun_name shelf.new ≡ None }
     ensures no_read_fault { result ≢ Status.ReadFault }
     ensures shelf_fault { result ≡ Status.ShelfFault → Rose (H.faults shelf.old) (H.faults shelf.new) }
-    ensures asked { result ≡ Status.ShelfFault → IsOk (spec_of bytes.now) }
+    ensures asked { result ≡ Status.ShelfFault → IsOkAnd (spec_of bytes.now) (λ b. is_any b ≡ true) }
     ensures write_fault { result ≡ Status.WriteFault → Rose (K.faults out.old) (K.faults out.new) ⊎ Rose (E.faults err.old) (E.faults err.new) }
 {
     match read_spec(alloc, bytes) {
@@ -99,13 +100,13 @@ pub(crate) fn sweep_source<S: Source, K: Sink, E: Sink, H: Shelf>(
     requires none_begun { H.begun_name shelf.old ≡ None }
 
     // What is printed is true of what came, at every status but those of faults and of want of memory.
-    ensures swept { IsAnswer result → AnswersSweep S.left S.given H.files SolvesInSheets budget src.old src.new shelf.old shelf.new (K.held out.old) (K.held out.new) (E.held err.old) (E.held err.new) result }
+    ensures swept { IsAnswer result → AnswersSweep S.left S.given H.files Solves budget src.old src.new shelf.old shelf.new (K.held out.old) (K.held out.new) (E.held err.old) (E.held err.new) result }
     ensures ended { EndsLogs result → H.begun_name shelf.new ≡ None }
 
     // A fault is answered only where the count of its object rose in this call.
     ensures read_fault { result ≡ Status.ReadFault → Rose (S.faults src.old) (S.faults src.new) × (out.new ≡ out.old) × (err.new ≡ err.old) × (shelf.new ≡ shelf.old) }
     ensures shelf_fault { result ≡ Status.ShelfFault → Rose (H.faults shelf.old) (H.faults shelf.new) }
-    ensures asked { result ≡ Status.ShelfFault → GivesSpec S.left S.given src.old src.new }
+    ensures asked { result ≡ Status.ShelfFault → GivesSpec S.left S.given is_any src.old src.new }
     ensures write_fault { result ≡ Status.WriteFault → Rose (K.faults out.old) (K.faults out.new) ⊎ Rose (E.faults err.old) (E.faults err.new) }
 {
     match read_all(alloc, src, MOST_BYTES) {
@@ -127,7 +128,7 @@ pub(crate) fn bench<K: Sink, E: Sink, H: Shelf>(
     requires low { 2 ≤ n }
     requires high { n ≤ 24 }
     requires none_begun { H.begun_name shelf.old ≡ None }
-    ensures swept { IsAnswer result → IsSwept SolvesInSheets (ghz_of n J) 100000 (H.files shelf.old) (H.files shelf.new) (K.held out.old) (K.held out.new) (E.held err.old) (E.held err.new) result }
+    ensures swept { IsAnswer result → IsSwept Solves (ghz_of n J) 100000 (H.files shelf.old) (H.files shelf.new) (K.held out.old) (K.held out.new) (E.held err.old) (E.held err.new) result }
     ensures ended { EndsLogs result → H.begun_name shelf.new ≡ None }
     ensures no_refusal { result ≢ Status.Refused }
     ensures no_read_fault { result ≢ Status.ReadFault }

@@ -45,8 +45,8 @@ returns-then-count-eq0-clause-all g c =
 
 pub returns-then-count-eq0-clause-told : goal.returns-then-count-eq0-clause-told
 returns-then-count-eq0-clause-told g c =
-    let fetch = is_fetch _ _ _ _ _ _ _ c.len-in-loop-all-3.result c.loop-all.all.items c.fetch.new.buf c.in-Ok.answer (Some c.in-Some.count) c.in-Some.is (omega (arith, c.loop-all.all.ok.0)) c.in-Ok.ensures.bytes c.in-Ok.ensures.found c.in-Ok.ensures.files c.in-Ok.ensures.begun c.in-Ok.ensures.count in
     let room : 1 ≤ length c.fetch.new.buf = search rules in
+    let fetch = is_fetch _ _ _ _ _ _ _ c.len-in-loop-all-3.result c.loop-all.all.items c.fetch.new.buf c.in-Ok.answer (Some c.in-Some.count) c.in-Some.is (omega (arith, c.loop-all.all.ok.0)) c.in-Ok.ensures.bytes c.in-Ok.ensures.found c.in-Ok.ensures.files c.in-Ok.ensures.begun c.in-Ok.ensures.count in
     ends _ _ _ _ _ _ _ _ _ _ _ c.loop-all.invariant.so_far fetch c.if-count-eq0.true room
 
 pub returns-then-count-eq0-clause-found : goal.returns-then-count-eq0-clause-found
@@ -68,8 +68,8 @@ returns-then-count-eq0-clause-files g c = stay_twice _ _ _ c.loop-all.invariant.
 
 pub returns-then-is_empty-clause-all : goal.returns-then-is_empty-clause-all
 returns-then-is_empty-clause-all g c =
-    let fetch = is_fetch _ _ _ _ _ _ _ c.len-in-loop-all-3.result c.loop-all.all.items c.fetch.new.buf c.in-Ok.answer None c.in-None.is (omega (arith, c.loop-all.all.ok.0)) c.in-Ok.ensures.bytes c.in-Ok.ensures.found c.in-Ok.ensures.files c.in-Ok.ensures.begun c.in-Ok.ensures.count in
     let empty : length c.loop-all.all.items ≡ 0 = search rules in
+    let fetch = is_fetch _ _ _ _ _ _ _ c.len-in-loop-all-3.result c.loop-all.all.items c.fetch.new.buf c.in-Ok.answer None c.in-None.is (omega (arith, c.loop-all.all.ok.0)) c.in-Ok.ensures.bytes c.in-Ok.ensures.found c.in-Ok.ensures.files c.in-Ok.ensures.begun c.in-Ok.ensures.count in
     nothing_came _ _ _ _ _ _ _ _ _ _ c.loop-all.invariant.so_far fetch empty
 
 pub returns-then-is_empty-clause-told : goal.returns-then-is_empty-clause-told
@@ -79,8 +79,8 @@ returns-then-is_empty-clause-told g c =
 
 pub returns-then-is_empty-clause-found : goal.returns-then-is_empty-clause-found
 returns-then-is_empty-clause-found g c =
-    let fetch = is_fetch _ _ _ _ _ _ _ c.len-in-loop-all-3.result c.loop-all.all.items c.fetch.new.buf c.in-Ok.answer None c.in-None.is (omega (arith, c.loop-all.all.ok.0)) c.in-Ok.ensures.bytes c.in-Ok.ensures.found c.in-Ok.ensures.files c.in-Ok.ensures.begun c.in-Ok.ensures.count in
     let empty : length c.loop-all.all.items ≡ 0 = search rules in
+    let fetch = is_fetch _ _ _ _ _ _ _ c.len-in-loop-all-3.result c.loop-all.all.items c.fetch.new.buf c.in-Ok.answer None c.in-None.is (omega (arith, c.loop-all.all.ok.0)) c.in-Ok.ensures.bytes c.in-Ok.ensures.found c.in-Ok.ensures.files c.in-Ok.ensures.begun c.in-Ok.ensures.count in
     found_none _ _ _ _ _ _ _ _ _ _ c.loop-all.invariant.so_far fetch empty
 
 pub returns-then-is_empty-clause-most : goal.returns-then-is_empty-clause-most
@@ -102,9 +102,9 @@ returns-in-None-clause-all g c =
 
 pub returns-in-None-clause-told : goal.returns-in-None-clause-told
 returns-in-None-clause-told g c =
-    let fetch = is_fetch _ _ _ _ _ _ _ c.len-in-loop-all-3.result c.loop-all.all.items c.fetch.new.buf c.in-Ok.answer None c.in-None.is (omega (arith, c.loop-all.all.ok.0)) c.in-Ok.ensures.bytes c.in-Ok.ensures.found c.in-Ok.ensures.files c.in-Ok.ensures.begun c.in-Ok.ensures.count in
     let some : vec_len c.loop-all.all ≡ 0 → ⊥ = eqb-false (vec_len c.loop-all.all) 0 (sym c.is_empty.ensures ∙ c.if-is_empty.false) in
     let full : 0 < length c.loop-all.all.items = omega (arith, c.loop-all.all.ok.0) in
+    let fetch = is_fetch _ _ _ _ _ _ _ c.len-in-loop-all-3.result c.loop-all.all.items c.fetch.new.buf c.in-Ok.answer None c.in-None.is (omega (arith, c.loop-all.all.ok.0)) c.in-Ok.ensures.bytes c.in-Ok.ensures.found c.in-Ok.ensures.files c.in-Ok.ensures.begun c.in-Ok.ensures.count in
     ends_early _ _ _ _ _ _ _ _ _ _ c.loop-all.invariant.so_far fetch full
 
 pub returns-in-None-clause-found : goal.returns-in-None-clause-found

@@ -1,6 +1,7 @@
-use Rattle.std.proofs.Common.{◌≤◌, length, ap, ◌∙◌, inr, arith}
+use Rattle.std.proofs.Common.{◌≤◌, length, ap, ◌∙◌, inr, arith, subst}
 use Rattle.std.specs.Vec.{vec_len}
 use Rattle.las_top.specs.Audit.{audit_answer}
+use Rattle.las_top.specs.Headline.{HasSolution}
 use Rattle.las_top.specs.Runs.{most_bytes}
 use Rattle.las_top.proofs.audit.audit_file.Goals as goal
 
@@ -13,5 +14,6 @@ returns-in_ok-audit_bytes-in-Ok-Some-clause-found g c =
       came = rw c.in-Ok-Some.field-0-is at c.in-Ok-Some.ensures.all;
       told = rw c.in-Ok-Some.field-0-is at c.in-Ok-Some.ensures.told;
       within = omega (arith, short, ap length c.deref.ensures.value, c.deref.ensures.len);
-      answer_is = c.in_ok-audit_bytes-in-Ok-Some.ensures ∙ ap (audit_answer c.args.spec.now) c.deref.ensures.value;
+      answer_is = c.in_ok-audit_bytes-in-Ok-Some.ensures.answer ∙ ap (audit_answer c.args.spec.now) c.deref.ensures.value;
+      solves = λ good. subst HasSolution c.deref.ensures.value (c.in_ok-audit_bytes-in-Ok-Some.ensures.solves good);
     }))

@@ -1,0 +1,4 @@
+use Rattle.las_top.proofs.finding.say_refused.Goals as goal
+
+pub returns-in-LogTooLong-clause-told : goal.returns-in-LogTooLong-clause-told
+returns-in-LogTooLong-clause-told g c = rw c.in-LogTooLong.is c.say-in-LogTooLong.ensures.told

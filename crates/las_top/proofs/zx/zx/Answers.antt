@@ -1,0 +1,12 @@
+use Rattle.std.proofs.Common.{◌≡◌, ◌∙◌, Ok, sym, ap}
+use Rattle.lasre_codec.specs.Documents.{Lasre, lasre_as}
+use Rattle.las_top.specs.Findings.{answer_by}
+use Rattle.las_top.proofs.SolutionLemmas.{if_ok, shown_obeys}
+use Rattle.las_top.proofs.zx.zx.Goals as goal
+
+pub returns-in-Ok-clause-shows : goal.returns-in-Ok-clause-shows
+returns-in-Ok-clause-shows c =
+    let l : Lasre = lasre_as c.in-Ok.lasre.job c.in-Ok.lasre.diagram c.in-Ok.lasre.sheets in
+    if_ok c.zx_of_lasre.result c.zx_of_lasre.ensures (λ f is good.
+    let k = shown_obeys l c.in-Ok.ensures.fits (sym (ap (λ a. a.status) is) ∙ good) in
+    record { lasre = l; given = c.in-Ok.ensures.ok; valid = k.0; labelled = k.1 })

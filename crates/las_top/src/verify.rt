@@ -1,0 +1,177 @@
+// The command `verify`: whether the log of a listed box refutes the box's clauses.
+ghost use Rattle.std.specs.Prelude.{◌≡◌, ◌^◌, ◌<◌, None, Some, false, true, IfOk, IsOkAnd, IsErrOf, IsTrue, MatchOption, slice_get, vec_len};
+ghost use Rattle.las_base.specs.Jobs.{IsTask};
+ghost use Rattle.las_io.specs.Counts.{Rose};
+ghost use Rattle.las_io.specs.Names.{is_lawful_name};
+ghost use Rattle.las_io.specs.Shelves.{FilesStay};
+ghost use Rattle.las_spec.specs.Briefs.{job_of, same_size, spec_of};
+ghost use Rattle.cnf_base.specs.Literals.{IsRefuted};
+ghost use Rattle.cnf_encode.specs.Clauses.{clause_table};
+ghost use Rattle.cnf_encode.specs.Variables.{var_count};
+ghost use Rattle.clause_log.specs.Bytes.{ahead_in};
+ghost use Rattle.las_top.specs.Headline.{Solves};
+ghost use Rattle.las_top.specs.Findings.{answer_by};
+ghost use Rattle.las_top.specs.Runs.{AnswersBoxLog, AnswersListed, AnswersLogFile, AnswersVerify};
+ghost use Rattle.las_top.specs.Verify.{AnswersSteps, lists_box};
+
+use crate::finding::{Finding, Refusal, Unfound};
+use box_sweep::log_name;
+use clause_log::{ByteSteps, Steps};
+use cnf_base::Formula;
+use cnf_encode::{cnf_vars, encode};
+use las_base::Size;
+use las_io::{FetchRefused, Shelf, fetch_all};
+use las_spec::{Job, Spec, SpecRefused, job, read_spec};
+use log_check::{Check, CheckRefused, check};
+use std::alloc::{AllocError, Global};
+
+// The most bytes of a log.
+const MOST_LOG_BYTES: usize = 67_108_864;
+
+// How many variables the clauses of a job are over: few enough for a formula.
+fn vars_of(job: &Job) -> u32
+    ensures count { result ≡ var_count job.now }
+    ensures few { result < 2 ^ 30 }
+    ensures lawful { IsTask job.now }
+{
+    let _ = job.size();
+    cnf_vars(job)
+}
+
+// The clauses of a job.
+#[tactic(auto, unfolding(cnf_encode::specs::Clauses::clause_table))]
+fn clauses_of(alloc: Global, job: &Job) -> Result<Formula, AllocError>
+    ensures { IfOk result (λ f. f ≡ clause_table job.now) }
+{
+    let mut formula = Formula::new(alloc, vars_of(job));
+    encode(job, &mut formula)?;
+    Ok(formula)
+}
+
+// What is found of the steps of a log, for a formula.
+fn judge<T: Steps>(alloc: Global, formula: &Formula, steps: &mut T) -> Result<Finding, Unfound>
+    requires { T.failed steps.old ≡ false }
+    ensures found { IfOk result (λ f. AnswersSteps formula.now (T.ahead steps.old) (answer_by f)) }
+    ensures shelf_fault { IsErrOf result Unfound.ShelfFault → Rose (T.faults steps.old) (T.faults steps.new) }
+    ensures no_read_fault { IsErrOf result Unfound.ReadFault → ⊥ }
+{
+    match check(alloc, formula, steps) {
+        Ok(Check::Accepted) => Ok(Finding::Accepted),
+        Ok(Check::Rejected { line, why }) => Ok(Finding::Rejected(line, why)),
+        Err(CheckRefused::TooLong) => Ok(Finding::Refused(Refusal::LogTooLong)),
+        Err(CheckRefused::ShelfFault) => Err(Unfound::ShelfFault),
+        Err(CheckRefused::Memory) => Err(Unfound::Memory),
+    }
+}
+
+// What is found of the bytes of a log, for a formula.
+fn judge_bytes(alloc: Global, formula: &Formula, bytes: Vec<u8>) -> Result<Finding, Unfound>
+    requires { vec_len bytes < 2 ^ 40 }
+    ensures found { IfOk result (λ f. AnswersSteps formula.now (Some (ahead_in bytes.items 0 1)) (answer_by f)) }
+    ensures no_shelf_fault { IsErrOf result Unfound.ShelfFault → ⊥ }
+    ensures no_read_fault { IsErrOf result Unfound.ReadFault → ⊥ }
+{
+    let mut steps = ByteSteps::new(alloc, bytes);
+    judge(alloc, formula, &mut steps)
+}
+
+// What is found of the log of this name, for a formula.
+fn judge_file<H: Shelf>(
+    alloc: Global,
+    formula: &Formula,
+    name: &str,
+    shelf: &mut H,
+) -> Result<Finding, Unfound>
+    requires lawful { IsTrue (is_lawful_name name.now) }
+    requires none_begun { H.begun_name shelf.old ≡ None }
+    ensures found { IfOk result (λ f. AnswersLogFile H.files H.finds H.given (IsRefuted formula.now.clauses) formula.now name.now shelf.old shelf.new (answer_by f)) }
+    ensures shelf_fault { IsErrOf result Unfound.ShelfFault → Rose (H.faults shelf.old) (H.faults shelf.new) }
+    ensures no_read_fault { IsErrOf result Unfound.ReadFault → ⊥ }
+    ensures files { FilesStay (H.files shelf.old) (H.files shelf.new) }
+    ensures begun { H.begun_name shelf.new ≡ None }
+{
+    match fetch_all(alloc, shelf, name, MOST_LOG_BYTES) {
+        Ok(Some(bytes)) => judge_bytes(alloc, formula, bytes),
+        Ok(None) => Ok(Finding::Refused(Refusal::NoFile(String::from_str(alloc, name)?))),
+        Err(FetchRefused::TooLong) => Ok(Finding::Refused(Refusal::LogTooLong)),
+        Err(FetchRefused::ShelfFault) => Err(Unfound::ShelfFault),
+        Err(FetchRefused::Memory) => Err(Unfound::Memory),
+    }
+}
+
+// What is found of the log of a job's box.
+fn judge_job<H: Shelf>(alloc: Global, job: &Job, shelf: &mut H) -> Result<Finding, Unfound>
+    requires none_begun { H.begun_name shelf.old ≡ None }
+    ensures found { IfOk result (λ f. AnswersBoxLog H.files H.finds H.given Solves job.now shelf.old shelf.new (answer_by f)) }
+    ensures shelf_fault { IsErrOf result Unfound.ShelfFault → Rose (H.faults shelf.old) (H.faults shelf.new) }
+    ensures no_read_fault { IsErrOf result Unfound.ReadFault → ⊥ }
+    ensures files { FilesStay (H.files shelf.old) (H.files shelf.new) }
+    ensures begun { H.begun_name shelf.new ≡ None }
+{
+    let name = log_name(alloc, job.size())?;
+    let formula = clauses_of(alloc, job)?;
+    judge_file(alloc, &formula, &name, shelf)
+}
+
+fn same_size(size: Size, other: Size) -> bool
+    ensures { result ≡ same_size size other }
+{
+    size == other
+}
+
+// The number of the box of this size, where it is listed.
+fn number_of(spec: &Spec, size: Size) -> Option<usize>
+    ensures { MatchOption result (lists_box size spec.now ≡ false) (λ n. slice_get spec.now.boxes n ≡ Some size) }
+{
+    for number in 0..spec.box_count() {
+        if same_size(size, spec.box_at(number)) {
+            return Some(number);
+        }
+    }
+    None
+}
+
+// What is found for a specification.
+fn verify_spec<H: Shelf>(
+    alloc: Global,
+    spec: &Spec,
+    size: Size,
+    shelf: &mut H,
+) -> Result<Finding, Unfound>
+    requires none_begun { H.begun_name shelf.old ≡ None }
+    ensures found { IfOk result (λ f. AnswersListed H.files H.finds H.given Solves (lists_box size spec.now) (job_of spec.now size) shelf.old shelf.new (answer_by f)) }
+    ensures shelf_fault { IsErrOf result Unfound.ShelfFault → Rose (H.faults shelf.old) (H.faults shelf.new) }
+    ensures asked { IsErrOf result Unfound.ShelfFault → lists_box size spec.now ≡ true }
+    ensures no_read_fault { IsErrOf result Unfound.ReadFault → ⊥ }
+    ensures files { FilesStay (H.files shelf.old) (H.files shelf.new) }
+    ensures begun { H.begun_name shelf.new ≡ None }
+{
+    match number_of(spec, size) {
+        Some(number) => judge_job(alloc, &job(alloc, spec, number)?, shelf),
+        None => Ok(Finding::Refused(Refusal::BoxNotListed)),
+    }
+}
+
+/// What `verify` finds of the document of a specification and of the log of a box of this size.
+pub(crate) fn verify<H: Shelf>(
+    alloc: Global,
+    bytes: &[u8],
+    size: Size,
+    shelf: &mut H,
+) -> Result<Finding, Unfound>
+    requires none_begun { H.begun_name shelf.old ≡ None }
+
+    // The log is accepted exactly where its steps refute the clauses of the listed box. Then no diagram solves the box's job.
+    ensures found { IfOk result (λ f. AnswersVerify H.files H.finds H.given Solves size (spec_of bytes.now) shelf.old shelf.new (answer_by f)) }
+    ensures shelf_fault { IsErrOf result Unfound.ShelfFault → Rose (H.faults shelf.old) (H.faults shelf.new) }
+    ensures asked { IsErrOf result Unfound.ShelfFault → IsOkAnd (spec_of bytes.now) (λ b. lists_box size b ≡ true) }
+    ensures no_read_fault { IsErrOf result Unfound.ReadFault → ⊥ }
+    ensures files { FilesStay (H.files shelf.old) (H.files shelf.new) }
+    ensures begun { H.begun_name shelf.new ≡ None }
+{
+    match read_spec(alloc, bytes) {
+        Ok(spec) => verify_spec(alloc, &spec, size, shelf),
+        Err(SpecRefused::Memory) => Err(Unfound::Memory),
+        Err(refusal) => Ok(Finding::Refused(Refusal::Spec(refusal))),
+    }
+}
