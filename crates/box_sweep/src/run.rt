@@ -1,12 +1,7 @@
 //! One box: its clauses, their search, and the log of it.
-ghost use Rattle.std.specs.Prelude.{◌≡◌, ◌≤◌, ◌<◌, ◌^◌, [], ℕ, List, Option, None, IfOk, IsSome, OnOk, IsTrue, length, unwrap_or};
-ghost use Rattle.las_base.specs.Jobs.{IsTask};
+ghost use Rattle.std.specs.Prelude.{◌≡◌, ◌≤◌, [], ℕ, List, Option, None, IfOk, IsSome, OnOk, IsTrue, unwrap_or};
 ghost use Rattle.las_io.specs.Names.{is_lawful_name};
 ghost use Rattle.las_io.specs.Shelves.{File, OthersStay, Told};
-ghost use Rattle.cnf_base.specs.Literals.{IsCnf};
-ghost use Rattle.cnf_encode.specs.Clauses.{clause_table};
-ghost use Rattle.cnf_encode.specs.Layouts.{plan_of};
-ghost use Rattle.cnf_encode.specs.Variables.{var_count};
 ghost use Rattle.clause_log.specs.LogFiles.{OthersAreLeft};
 ghost use Rattle.box_sweep.specs.Lines.{log_name};
 ghost use Rattle.box_sweep.specs.Logged.{IsEmpty, IsLogged, IsTrueBox};
@@ -14,36 +9,16 @@ ghost use Rattle.box_sweep.specs.Refusals.{HasShelfCause};
 ghost use Rattle.box_sweep.specs.Solutions.{SolvesInSheets};
 ghost use Rattle.box_sweep.specs.Words.{IsFitting, word_of};
 
+use crate::clauses::clauses_of;
 use crate::names::log_name;
 use crate::{SweepRefused, Verdict};
 use clause_log::{LogWriter, begin_log};
 use cnf_base::Formula;
-use cnf_encode::{Layout, cnf_vars, decode, encode};
+use cnf_encode::decode;
 use las_io::Shelf;
 use las_spec::Job;
 use sat_core::{Outcome, solve};
-use std::alloc::{AllocError, Global};
-
-// How many variables the clauses of a job are over: few enough for a formula.
-fn vars_of(job: &Job) -> u32
-    ensures count { result ≡ var_count job.now }
-    ensures few { result < 2 ^ 30 }
-    ensures lawful { IsTask job.now }
-{
-    let _ = job.size();
-    cnf_vars(job)
-}
-
-// The clauses of a job, and which variable says what.
-#[tactic(auto, unfolding(cnf_encode::specs::Clauses::clause_table))]
-fn clauses_of(alloc: Global, job: &Job) -> Result<(Formula, Layout), AllocError>
-    ensures formula { IfOk result (λ made. made.0 ≡ clause_table job.now) }
-    ensures layout { IfOk result (λ made. made.1 ≡ plan_of job.now) }
-{
-    let mut formula = Formula::new(alloc, vars_of(job));
-    let layout = encode(job, &mut formula)?;
-    Ok((formula, layout))
-}
+use std::alloc::Global;
 
 // Searches, and writes each step to the file that is begun on the shelf.
 fn solve_logged<H: Shelf>(

@@ -1,13 +1,13 @@
 -- What a writer has taken, before a line and behind it.
-use Rattle.std.proofs.Common.{◌≡◌, ◌⊎◌, ℕ, ◌+◌, ◌-◌, ◌^◌, ◌<◌, ◌≤◌, Bool, true, false, ◌&&◌, ◌||◌, not, cond, List, [], ◌∷◌, ◌++◌, length, take, Option, Some, None, IfSome, IsSome, IsSomeAnd, Result, Ok, Err, is_ok, unwrap_or, refl, sym, ap, ◌∙◌, subst, arith, inl, inr, suc, nat_eq, nat_le, nat_lt, get_or, length-append, append-nil}
+use Rattle.std.proofs.Common.{◌≡◌, ℕ, ◌+◌, ◌-◌, ◌^◌, ◌<◌, Bool, true, false, ◌&&◌, cond, List, [], ◌∷◌, ◌++◌, length, take, Option, Some, None, IfSome, IsSome, IsSomeAnd, Result, Ok, Err, is_ok, refl, sym, ap, ◌∙◌, subst, arith, suc, nat_eq, nat_le, nat_lt, get_or, length-append}
 use Rattle.std.specs.List.{list_all}
 use Rattle.std.specs.Option.{option_and_then}
-use Rattle.std.proofs.lemmas.Bool.{and_parts, and_from, cond-true, cond-false, eqb-true, eq-eqb, le-leb, lt-ltb, ltb-true}
-use Rattle.std.proofs.lemmas.List.{take_all, take_at, take-append-le}
-use Rattle.las_io.specs.Shelves.{File, AppendsPiece, Grows, OthersStay, Told, file_of}
+use Rattle.std.proofs.lemmas.Bool.{and_parts, and_from, cond-true, eqb-true, eq-eqb, le-leb, lt-ltb, ltb-true}
+use Rattle.std.proofs.lemmas.List.{take_all, take_at}
+use Rattle.las_io.specs.Shelves.{File, AppendsPiece, Grows, file_of}
 use Rattle.cnf_base.specs.declared.literal.Lit.{Lit}
 use Rattle.cnf_base.specs.Literals.{variable, are_below}
-use Rattle.cnf_base.specs.Logs.{LogStep, Add, Remove, Tail, LogEnd, Malformed, Limit}
+use Rattle.cnf_base.specs.Logs.{LogStep, Add, Tail, LogEnd, Malformed, Limit}
 use Rattle.cnf_base.specs.Takes.{Takes, steps_after, is_fault}
 use Rattle.cnf_base.specs.declared.traits.LogBad.{LogBad}
 use Rattle.cnf_base.specs.declared.traits.LogBad.TheVariants.{Fault, Memory}

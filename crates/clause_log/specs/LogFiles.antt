@@ -1,5 +1,5 @@
 -- What a writer leaves in a file.
-use Rattle.std.specs.Prelude.{◌≡◌, ℕ, ◌-◌, ◌^◌, ◌<◌, ◌≤◌, Bool, true, false, ◌&&◌, ◌||◌, not, is_some, nat_lt, nat_le, nat_eq, List, [], ◌∷◌, ◌++◌, map, length, take, Option, Some, None, IfSome, unwrap_or, Result, Ok, Err, if◌then◌else◌}
+use Rattle.std.specs.Prelude.{◌≡◌, ℕ, ◌-◌, ◌^◌, Bool, true, false, ◌&&◌, ◌||◌, not, is_some, nat_lt, nat_le, nat_eq, List, [], ◌∷◌, ◌++◌, map, length, take, Option, Some, None, IfSome, unwrap_or, Result, Ok, Err, if◌then◌else◌}
 use Rattle.std.specs.List.{list_all}
 use Rattle.std.specs.Option.{option_and_then}
 use Rattle.las_io.specs.Shelves.{File, AppendsPiece, OthersStay, Told, file_of}

@@ -1,10 +1,10 @@
 // A log's text as a whole, written and read.
-ghost use Rattle.std.specs.Prelude.{◌≡◌, None};
+ghost use Rattle.std.specs.Prelude.{◌≡◌, None, IfOk};
 
-use crate::{ByteSteps, LogWriter, Steps, begin_log};
+use crate::{LogWriter, StepReader, Steps, begin_log, find_log};
 use cnf_base::{LogBad, LogTake, Var};
 use las_io::{MemShelf, NamedFile};
-use std::alloc::Global;
+use std::alloc::{AllocError, Global};
 use std::test::Fail;
 
 fn shelf(alloc: Global, fails: Vec<u64>) -> MemShelf
@@ -44,15 +44,29 @@ fn a_failed_append_is_a_fault(rt: HostRuntime) -> Result<(), Fail> {
     Ok(())
 }
 
+// A shelf with one log, of two lines.
+fn shelf_with_log(alloc: Global) -> Result<MemShelf, AllocError>
+    ensures { IfOk result (λ shelf. shelf.begun ≡ None) }
+{
+    let mut files = Vec::new(alloc);
+    let bytes = Vec::from_slice(alloc, b"5  1 -2 0 1\t3 0\n5 d 1\n")?;
+    files.push(NamedFile::new(String::from_str(alloc, "a.log")?, bytes))?;
+    Ok(MemShelf::new(alloc, files, Vec::new(alloc)))
+}
+
 #[test]
 fn a_line_is_a_step(rt: HostRuntime) -> Result<(), Fail> {
     let alloc = rt.alloc();
-    let log = b"5  1 -2 0 1\t3 0\n";
-    let mut steps = ByteSteps::new(alloc, Vec::from_slice(alloc, log)?);
+    let mut shelf = shelf_with_log(alloc)?;
+    let found = find_log(alloc, &mut shelf, "a.log").ok().flatten();
+    let log = found.expect(&rt, "the log is there");
+    let mut steps = StepReader::new(&mut shelf, log);
     let step = steps.next();
     let shown = format!(in alloc; "{step:?}")?;
     let want =
         "Ok(Some(Add { id: 5, lits: LitList { lits: [Lit(0), Lit(3)] }, hints: IdList { ids: [1, 3] } }))";
     assert_eq!(rt; shown.as_str(), want);
+    let shelf = steps.into_shelf();
+    assert_eq!(rt; shelf.calls(), 2);
     Ok(())
 }

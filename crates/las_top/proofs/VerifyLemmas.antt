@@ -1,18 +1,16 @@
 -- What a checker of logs answers, as `verify` says it of the file of a box.
-use Rattle.std.proofs.Common.{◌≡◌, inl, inr, ℕ, Bool, true, false, List, Option, Some, slice_get, option_map, IfSome, ap, subst, ◌∙◌}
-use Rattle.std.proofs.lemmas.Option.{IfSome_then}
+use Rattle.std.proofs.Common.{◌≡◌, inl, inr, ℕ, Bool, true, false, List, [], drop, Option, Some, None, is_some, slice_get, option_map, unwrap_or, IfSome, refl, sym, ap, subst, ◌∙◌}
 use Rattle.las_base.specs.declared.Size.{Size}
 use Rattle.las_base.specs.Jobs.{Task, IsTask}
-use Rattle.las_io.specs.Shelves.{File, file_of}
+use Rattle.las_io.specs.Shelves.{File, FilesStay, file_of}
 use Rattle.grid_box.specs.Drawings.{Drawing}
 use Rattle.las_spec.specs.Briefs.{Brief, same_size}
 use Rattle.las_spec.proofs.Distinct.{same_size-refl}
 use Rattle.cnf_base.specs.Literals.{Cnf, IsRefuted}
 use Rattle.cnf_base.specs.Logs.{LogStep, Tail, LogEnd, Malformed, Limit}
 use Rattle.cnf_encode.specs.Clauses.{clause_table}
-use Rattle.clause_log.specs.Bytes.{ahead_in, ahead_of}
-use Rattle.clause_log.specs.LogText.{read_log}
-use Rattle.clause_log.specs.Steps.{Ahead, Follows, tail_of}
+use Rattle.clause_log.specs.Pieces.{bytes_from, log_told, read_to_limit}
+use Rattle.clause_log.specs.Steps.{Ahead, Follows, ahead_of, tail_of}
 use Rattle.box_sweep.specs.Lines.{log_name}
 use Rattle.box_sweep.proofs.SolutionLemmas.{none_solves}
 use Rattle.las_top.specs.Headline.{Solves}
@@ -32,38 +30,63 @@ log_is (ss, LogEnd) steps follows e = ap without_line e
 log_is (ss, Malformed) steps follows e = ap without_line e
 log_is (ss, Limit) steps follows e = ap without_line e
 
-module _ {H : Type 0} (files : H → Option (List File)) (finds : H → List ℕ → Bool → Type 0) (fetched : H → ℕ) (before after : H) (answer : Answer) where
-  pub log_judged : (f : Cnf) (name bytes : List ℕ) → finds before name true → IfSome (files before) (λ fs. file_of fs name ≡ Some bytes) → AnswersSteps f (Some (ahead_in bytes 0 1)) answer → AnswersLogFile files finds fetched (IsRefuted f.clauses) f name before after answer
-  log_judged f name bytes present told s = inr (inr (record {
+-- of a file that is there, by what is ahead of its reader
+of_file : (file : Option (List ℕ)) (steps : List LogStep) (follows : Follows) → true ≡ is_some file → ahead_of 1 (read_to_limit (drop 0 (unwrap_or file []))) ≡ (steps, follows) → option_map read_to_limit file ≡ Some (steps, tail_of follows)
+of_file None steps follows there e = absurd (cc)
+of_file (Some bytes) steps follows there e = ap Some (log_is (read_to_limit bytes) steps follows e)
+
+of_files : (files : Option (List File)) (name : List ℕ) (steps : List LogStep) (follows : Follows) → IfSome files (λ fs. true ≡ is_some (file_of fs name)) → IfSome (log_told name files) (λ ahead. ahead ≡ (steps, follows))
+    → IfSome files (λ fs. option_map read_to_limit (file_of fs name) ≡ Some (steps, tail_of follows))
+of_files None name steps follows there told = tt
+of_files (Some fs) name steps follows there told = of_file (file_of fs name) steps follows there told
+
+-- the steps of a log are those of before, where the files stayed
+told_before : (before after : Option (List File)) (name : List ℕ) (ahead : Ahead) → FilesStay before after → IfSome (log_told name after) (λ a. a ≡ ahead) → IfSome (log_told name before) (λ a. a ≡ ahead)
+told_before None after name ahead stay told = tt
+told_before (Some fs) None name ahead stay told = absurd stay
+told_before (Some fs) (Some gs) name ahead stay told = ap (λ hs. ahead_of 1 (read_to_limit (bytes_from name 0 hs))) (sym stay) ∙ told
+
+-- of a file that is not there
+not_there : (file : Option (List ℕ)) → false ≡ is_some file → file ≡ None
+not_there None none = refl
+not_there (Some bytes) none = absurd (cc)
+
+pub is_absent : (files : Option (List File)) (name : List ℕ) → IfSome files (λ fs. false ≡ is_some (file_of fs name)) → IfSome files (λ fs. file_of fs name ≡ None)
+is_absent None name none = tt
+is_absent (Some fs) name none = not_there (file_of fs name) none
+
+module _ {H : Type 0} (files : H → Option (List File)) (finds : H → List ℕ → Bool → Type 0) (before : H) (answer : Answer) where
+  pub log_judged : (f : Cnf) (name own : List ℕ) (mid : H) → finds before name true → IfSome (files before) (λ fs. true ≡ is_some (file_of fs name)) → own ≡ name → FilesStay (files before) (files mid)
+      → AnswersSteps f (log_told own (files mid)) answer → AnswersLogFile files finds (IsRefuted f.clauses) f name before answer
+  log_judged f name own mid present there named stay s = inr (record {
     steps = s.steps;
     tail = tail_of s.follows;
     present = present;
-    told = IfSome_then (files before) told (λ fs e. ap (option_map read_log) e ∙ ap Some (log_is (read_log bytes) s.steps s.follows s.told_are));
+    told = of_files (files before) name s.steps s.follows there (told_before (files before) (files mid) name (s.steps, s.follows) stay (subst (λ n. IfSome (log_told n (files mid)) (λ a. a ≡ (s.steps, s.follows))) named s.told_are));
     answer_is = s.answer_is;
     shown = s.refuted;
-  }))
+  })
 
   -- ---- the log of a box
 
-  shown : (t : Task) → IsTask t → AnswersLogFile files finds fetched (IsRefuted (clause_table t).clauses) (clause_table t) (log_name t.size) before after answer → AnswersBoxLog files finds fetched Solves t before after answer
+  shown : (t : Task) → IsTask t → AnswersLogFile files finds (IsRefuted (clause_table t).clauses) (clause_table t) (log_name t.size) before answer → AnswersBoxLog files finds Solves t before answer
   shown t task (inl none) = inl none
-  shown t task (inr (inl long)) = inr (inl long)
-  shown t task (inr (inr a)) = inr (inr (record {
+  shown t task (inr a) = inr (record {
     steps = a.steps;
     tail = a.tail;
     present = a.present;
     told = a.told;
     answer_is = a.answer_is;
     shown = λ good. none_in_flows t task (none_solves t task (a.shown good));
-  }))
+  })
 
-  pub box_judged : (t : Task) (f : Cnf) (name : List ℕ) → IsTask t → f ≡ clause_table t → name ≡ log_name t.size → AnswersLogFile files finds fetched (IsRefuted f.clauses) f name before after answer → AnswersBoxLog files finds fetched Solves t before after answer
+  pub box_judged : (t : Task) (f : Cnf) (name : List ℕ) → IsTask t → f ≡ clause_table t → name ≡ log_name t.size → AnswersLogFile files finds (IsRefuted f.clauses) f name before answer → AnswersBoxLog files finds Solves t before answer
   box_judged t f name task formula_is name_is a =
-      shown t task (subst (λ n. AnswersLogFile files finds fetched (IsRefuted (clause_table t).clauses) (clause_table t) n before after answer) name_is (subst (λ g. AnswersLogFile files finds fetched (IsRefuted g.clauses) g name before after answer) formula_is a))
+      shown t task (subst (λ n. AnswersLogFile files finds (IsRefuted (clause_table t).clauses) (clause_table t) n before answer) name_is (subst (λ g. AnswersLogFile files finds (IsRefuted g.clauses) g name before answer) formula_is a))
 
-  pub listed_judged : (Solved : Task → Drawing → Type 0) (t u : Task) (listed : Bool) → listed ≡ true → u ≡ t → AnswersBoxLog files finds fetched Solved u before after answer → AnswersListed files finds fetched Solved listed t before after answer
-  listed_judged Solved t u true is same a = subst (λ v. AnswersBoxLog files finds fetched Solved v before after answer) same a
-  listed_judged Solved t u false is same a = absurd (cc)
+  pub listed_judged : (after : H) (Solved : Task → Drawing → Type 0) (t u : Task) (listed : Bool) → listed ≡ true → u ≡ t → AnswersBoxLog files finds Solved u before answer → AnswersListed files finds Solved listed t before after answer
+  listed_judged after Solved t u true is same a = subst (λ v. AnswersBoxLog files finds Solved v before answer) same a
+  listed_judged after Solved t u false is same a = absurd (cc)
 
 -- ---- listed boxes
 

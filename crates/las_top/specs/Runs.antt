@@ -12,7 +12,7 @@ use Rattle.las_spec.specs.Texts.{refusal_text}
 use Rattle.cnf_base.specs.Literals.{Cnf}
 use Rattle.cnf_base.specs.Logs.{LogStep, Tail}
 use Rattle.cnf_encode.specs.Clauses.{clause_table}
-use Rattle.clause_log.specs.LogText.{read_log}
+use Rattle.clause_log.specs.Pieces.{read_to_limit}
 use Rattle.box_sweep.specs.Lines.{log_name}
 use Rattle.las_top.specs.declared.run.Status.{Status}
 use Rattle.las_top.specs.declared.run.Status.TheVariants.{Good}
@@ -53,10 +53,6 @@ sends _ = is_any
 abbrev pub most_bytes : ℕ
 most_bytes = 4194304
 
--- the most bytes of a log
-abbrev pub most_log_bytes : ℕ
-most_log_bytes = 67108864
-
 -- ---- a document
 
 -- what `zx` answers to the bytes of a document. Where it says yes, the labels that it shows obey the rules
@@ -66,14 +62,43 @@ pub record AnswersZx (bytes : List ℕ) (answer : Answer) : Type 0 where
 
 -- ---- the shelf
 
--- of a shelf: its files, where it tells them; whether it finds a name; how many bytes its fetches have given
-module _ {H : Type 0} (files : H → Option (List File)) (finds : H → List ℕ → Bool → Type 0) (fetched : H → ℕ) where
+-- of a shelf: its files, where it tells them; whether it finds a name
+module _ {H : Type 0} (files : H → Option (List File)) (finds : H → List ℕ → Bool → Type 0) where
   -- there is no file of this name
-  pub record IsNoFile (name : List ℕ) (before after : H) (answer : Answer) : Type 0 where
+  pub record IsNoFile (name : List ℕ) (before : H) (answer : Answer) : Type 0 where
     pub absent : finds before name false
     pub told : IfSome (files before) (λ fs. file_of fs name ≡ None)
     pub answer_is : answer ≡ refused (codes "no file " ++ name)
 
+  -- these are the steps of the log and what follows them, this is answered to them, and where the log is accepted this is shown
+  pub record AnswersLog (Shown : Type 0) (f : Cnf) (name : List ℕ) (before : H) (answer : Answer) : Type 0 where
+    pub steps : List LogStep
+    pub tail : Tail
+    pub present : finds before name true
+    pub told : IfSome (files before) (λ fs. option_map read_to_limit (file_of fs name) ≡ Some (steps, tail))
+    pub answer_is : answer ≡ log_answer f steps tail
+    pub shown : answer.status ≡ Good → Shown
+
+  -- what is answered of a log, for a formula
+  abbrev pub AnswersLogFile : Type 0 → Cnf → List ℕ → H → Answer → Type 0
+  AnswersLogFile Shown f name before answer = IsNoFile name before answer ⊎ AnswersLog Shown f name before answer
+
+  -- what is answered of the log of a job's box: where it is accepted, no diagram solves the job
+  abbrev pub AnswersBoxLog : (Task → Drawing → Type 0) → Task → H → Answer → Type 0
+  AnswersBoxLog Solved t before answer = AnswersLogFile (NoneSolves Solved t) (clause_table t) (log_name t.size) before answer
+
+  -- what `verify` answers by whether the box is listed: the shelf is asked where it is
+  abbrev pub AnswersListed : (Task → Drawing → Type 0) → Bool → Task → H → H → Answer → Type 0
+  AnswersListed Solved false t before after answer = (answer ≡ refused (codes "box not listed")) × (after ≡ before)
+  AnswersListed Solved true t before after answer = AnswersBoxLog Solved t before answer
+
+  -- what `verify` answers to what a document of a specification gives
+  abbrev pub AnswersVerify : (Task → Drawing → Type 0) → Size → Result Brief SpecRefused → H → H → Answer → Type 0
+  AnswersVerify Solved size (Err refusal) before after answer = (answer ≡ refused (refusal_text refusal)) × (after ≡ before)
+  AnswersVerify Solved size (Ok b) before after answer = AnswersListed Solved (lists_box size b) (job_of b size) before after answer
+
+-- and how many bytes its fetches have given
+module _ {H : Type 0} (files : H → Option (List File)) (finds : H → List ℕ → Bool → Type 0) (fetched : H → ℕ) where
   -- one byte more than so many came of the file, and it is refused for this reason
   pub record IsLongFile (most : ℕ) (reason name : List ℕ) (before after : H) (answer : Answer) : Type 0 where
     pub present : finds before name true
@@ -92,40 +117,12 @@ module _ {H : Type 0} (files : H → Option (List File)) (finds : H → List ℕ
 
   -- what is answered of a file, for a specification
   abbrev pub AnswersFile : Brief → List ℕ → H → H → Answer → Type 0
-  AnswersFile b name before after answer = IsNoFile name before after answer ⊎ (IsLongFile most_bytes (codes "lasre too long") name before after answer ⊎ AnswersBytes b name before after answer)
+  AnswersFile b name before after answer = IsNoFile files finds name before answer ⊎ (IsLongFile most_bytes (codes "lasre too long") name before after answer ⊎ AnswersBytes b name before after answer)
 
   -- what `audit` answers to what a document of a specification gives: the shelf is asked where this is not refused
   abbrev pub AnswersSpec : List ℕ → Result Brief SpecRefused → H → H → Answer → Type 0
   AnswersSpec name (Err refusal) before after answer = (answer ≡ refused (refusal_text refusal)) × (after ≡ before)
   AnswersSpec name (Ok b) before after answer = AnswersFile b name before after answer
-
-  -- these are the steps of the log and what follows them, this is answered to them, and where the log is accepted this is shown
-  pub record AnswersLog (Shown : Type 0) (f : Cnf) (name : List ℕ) (before after : H) (answer : Answer) : Type 0 where
-    pub steps : List LogStep
-    pub tail : Tail
-    pub present : finds before name true
-    pub told : IfSome (files before) (λ fs. option_map read_log (file_of fs name) ≡ Some (steps, tail))
-    pub answer_is : answer ≡ log_answer f steps tail
-    pub shown : answer.status ≡ Good → Shown
-
-  -- what is answered of a log, for a formula
-  abbrev pub AnswersLogFile : Type 0 → Cnf → List ℕ → H → H → Answer → Type 0
-  AnswersLogFile Shown f name before after answer =
-      IsNoFile name before after answer ⊎ (IsLongFile most_log_bytes (codes "log too long") name before after answer ⊎ AnswersLog Shown f name before after answer)
-
-  -- what is answered of the log of a job's box: where it is accepted, no diagram solves the job
-  abbrev pub AnswersBoxLog : (Task → Drawing → Type 0) → Task → H → H → Answer → Type 0
-  AnswersBoxLog Solved t before after answer = AnswersLogFile (NoneSolves Solved t) (clause_table t) (log_name t.size) before after answer
-
-  -- what `verify` answers by whether the box is listed: the shelf is asked where it is
-  abbrev pub AnswersListed : (Task → Drawing → Type 0) → Bool → Task → H → H → Answer → Type 0
-  AnswersListed Solved false t before after answer = (answer ≡ refused (codes "box not listed")) × (after ≡ before)
-  AnswersListed Solved true t before after answer = AnswersBoxLog Solved t before after answer
-
-  -- what `verify` answers to what a document of a specification gives
-  abbrev pub AnswersVerify : (Task → Drawing → Type 0) → Size → Result Brief SpecRefused → H → H → Answer → Type 0
-  AnswersVerify Solved size (Err refusal) before after answer = (answer ≡ refused (refusal_text refusal)) × (after ≡ before)
-  AnswersVerify Solved size (Ok b) before after answer = AnswersListed Solved (lists_box size b) (job_of b size) before after answer
 
   -- what is answered to the bytes of the source
   abbrev pub AnswersAsked : (Task → Drawing → Type 0) → Asked → H → H → List ℕ → Answer → Type 0
@@ -133,7 +130,7 @@ module _ {H : Type 0} (files : H → Option (List File)) (finds : H → List ℕ
   AnswersAsked Solved Spec before after bytes answer = (answer ≡ spec_answer bytes) × (after ≡ before)
   AnswersAsked Solved Zx before after bytes answer = AnswersZx bytes answer × (after ≡ before)
   AnswersAsked Solved (Audit name) before after bytes answer = AnswersSpec name (spec_of bytes) before after answer
-  AnswersAsked Solved (Verify size) before after bytes answer = AnswersVerify Solved size (spec_of bytes) before after answer
+  AnswersAsked Solved (Verify size) before after bytes answer = AnswersVerify files finds Solved size (spec_of bytes) before after answer
 
 -- ---- the source
 

@@ -1,52 +1,25 @@
 // The command `verify`: whether the log of a listed box refutes the box's clauses.
-ghost use Rattle.std.specs.Prelude.{◌≡◌, ◌^◌, ◌<◌, None, Some, false, true, IfOk, IsOkAnd, IsErrOf, IsTrue, MatchOption, slice_get, vec_len};
-ghost use Rattle.las_base.specs.Jobs.{IsTask};
+ghost use Rattle.std.specs.Prelude.{◌≡◌, None, Some, false, true, IfOk, IsOkAnd, IsErrOf, IsTrue, MatchOption, slice_get, string_bytes};
 ghost use Rattle.las_io.specs.Counts.{Rose};
 ghost use Rattle.las_io.specs.Names.{is_lawful_name};
 ghost use Rattle.las_io.specs.Shelves.{FilesStay};
 ghost use Rattle.las_spec.specs.Briefs.{job_of, same_size, spec_of};
 ghost use Rattle.cnf_base.specs.Literals.{IsRefuted};
-ghost use Rattle.cnf_encode.specs.Clauses.{clause_table};
-ghost use Rattle.cnf_encode.specs.Variables.{var_count};
-ghost use Rattle.clause_log.specs.Bytes.{ahead_in};
+ghost use Rattle.clause_log.specs.Pieces.{log_told};
 ghost use Rattle.las_top.specs.Headline.{Solves};
 ghost use Rattle.las_top.specs.Findings.{answer_by};
 ghost use Rattle.las_top.specs.Runs.{AnswersBoxLog, AnswersListed, AnswersLogFile, AnswersVerify};
 ghost use Rattle.las_top.specs.Verify.{AnswersSteps, lists_box};
 
 use crate::finding::{Finding, Refusal, Unfound};
-use box_sweep::log_name;
-use clause_log::{ByteSteps, Steps};
+use box_sweep::{clauses_of, log_name};
+use clause_log::{FoundLog, StepReader, StepRefused, Steps, find_log};
 use cnf_base::Formula;
-use cnf_encode::{cnf_vars, encode};
 use las_base::Size;
-use las_io::{FetchRefused, Shelf, fetch_all};
+use las_io::Shelf;
 use las_spec::{Job, Spec, SpecRefused, job, read_spec};
 use log_check::{Check, CheckRefused, check};
-use std::alloc::{AllocError, Global};
-
-// The most bytes of a log.
-const MOST_LOG_BYTES: usize = 67_108_864;
-
-// How many variables the clauses of a job are over: few enough for a formula.
-fn vars_of(job: &Job) -> u32
-    ensures count { result ≡ var_count job.now }
-    ensures few { result < 2 ^ 30 }
-    ensures lawful { IsTask job.now }
-{
-    let _ = job.size();
-    cnf_vars(job)
-}
-
-// The clauses of a job.
-#[tactic(auto, unfolding(cnf_encode::specs::Clauses::clause_table))]
-fn clauses_of(alloc: Global, job: &Job) -> Result<Formula, AllocError>
-    ensures { IfOk result (λ f. f ≡ clause_table job.now) }
-{
-    let mut formula = Formula::new(alloc, vars_of(job));
-    encode(job, &mut formula)?;
-    Ok(formula)
-}
+use std::alloc::Global;
 
 // What is found of the steps of a log, for a formula.
 fn judge<T: Steps>(alloc: Global, formula: &Formula, steps: &mut T) -> Result<Finding, Unfound>
@@ -54,6 +27,7 @@ fn judge<T: Steps>(alloc: Global, formula: &Formula, steps: &mut T) -> Result<Fi
     ensures found { IfOk result (λ f. AnswersSteps formula.now (T.ahead steps.old) (answer_by f)) }
     ensures shelf_fault { IsErrOf result Unfound.ShelfFault → Rose (T.faults steps.old) (T.faults steps.new) }
     ensures no_read_fault { IsErrOf result Unfound.ReadFault → ⊥ }
+    ensures goes_on { T.goes_on_from steps.new steps.old }
 {
     match check(alloc, formula, steps) {
         Ok(Check::Accepted) => Ok(Finding::Accepted),
@@ -64,15 +38,24 @@ fn judge<T: Steps>(alloc: Global, formula: &Formula, steps: &mut T) -> Result<Fi
     }
 }
 
-// What is found of the bytes of a log, for a formula.
-fn judge_bytes(alloc: Global, formula: &Formula, bytes: Vec<u8>) -> Result<Finding, Unfound>
-    requires { vec_len bytes < 2 ^ 40 }
-    ensures found { IfOk result (λ f. AnswersSteps formula.now (Some (ahead_in bytes.items 0 1)) (answer_by f)) }
-    ensures no_shelf_fault { IsErrOf result Unfound.ShelfFault → ⊥ }
+// What is found of a log that stands on the shelf, for a formula.
+fn judge_log<H: Shelf>(
+    alloc: Global,
+    formula: &Formula,
+    log: FoundLog,
+    shelf: &mut H,
+) -> Result<Finding, Unfound>
+    requires none_begun { H.begun_name shelf.old ≡ None }
+    ensures found { IfOk result (λ f. AnswersSteps formula.now (log_told (string_bytes log.name) (H.files shelf.old)) (answer_by f)) }
+    ensures shelf_fault { IsErrOf result Unfound.ShelfFault → Rose (H.faults shelf.old) (H.faults shelf.new) }
     ensures no_read_fault { IsErrOf result Unfound.ReadFault → ⊥ }
+    ensures files { FilesStay (H.files shelf.old) (H.files shelf.new) }
+    ensures begun { H.begun_name shelf.new ≡ None }
 {
-    let mut steps = ByteSteps::new(alloc, bytes);
-    judge(alloc, formula, &mut steps)
+    let mut steps = StepReader::new(shelf, log);
+    let found = judge(alloc, formula, &mut steps);
+    let _ = steps.into_shelf();
+    found
 }
 
 // What is found of the log of this name, for a formula.
@@ -84,32 +67,32 @@ fn judge_file<H: Shelf>(
 ) -> Result<Finding, Unfound>
     requires lawful { IsTrue (is_lawful_name name.now) }
     requires none_begun { H.begun_name shelf.old ≡ None }
-    ensures found { IfOk result (λ f. AnswersLogFile H.files H.finds H.given (IsRefuted formula.now.clauses) formula.now name.now shelf.old shelf.new (answer_by f)) }
+    ensures found { IfOk result (λ f. AnswersLogFile H.files H.finds (IsRefuted formula.now.clauses) formula.now name.now shelf.old (answer_by f)) }
     ensures shelf_fault { IsErrOf result Unfound.ShelfFault → Rose (H.faults shelf.old) (H.faults shelf.new) }
     ensures no_read_fault { IsErrOf result Unfound.ReadFault → ⊥ }
     ensures files { FilesStay (H.files shelf.old) (H.files shelf.new) }
     ensures begun { H.begun_name shelf.new ≡ None }
 {
-    match fetch_all(alloc, shelf, name, MOST_LOG_BYTES) {
-        Ok(Some(bytes)) => judge_bytes(alloc, formula, bytes),
+    match find_log(alloc, shelf, name) {
+        Ok(Some(log)) => judge_log(alloc, formula, log, shelf),
         Ok(None) => Ok(Finding::Refused(Refusal::NoFile(String::from_str(alloc, name)?))),
-        Err(FetchRefused::TooLong) => Ok(Finding::Refused(Refusal::LogTooLong)),
-        Err(FetchRefused::ShelfFault) => Err(Unfound::ShelfFault),
-        Err(FetchRefused::Memory) => Err(Unfound::Memory),
+        Err(StepRefused::ShelfFault) => Err(Unfound::ShelfFault),
+        Err(StepRefused::Memory) => Err(Unfound::Memory),
+        Err(StepRefused::Malformed(_) | StepRefused::TooLong) => unreachable!(),
     }
 }
 
 // What is found of the log of a job's box.
 fn judge_job<H: Shelf>(alloc: Global, job: &Job, shelf: &mut H) -> Result<Finding, Unfound>
     requires none_begun { H.begun_name shelf.old ≡ None }
-    ensures found { IfOk result (λ f. AnswersBoxLog H.files H.finds H.given Solves job.now shelf.old shelf.new (answer_by f)) }
+    ensures found { IfOk result (λ f. AnswersBoxLog H.files H.finds Solves job.now shelf.old (answer_by f)) }
     ensures shelf_fault { IsErrOf result Unfound.ShelfFault → Rose (H.faults shelf.old) (H.faults shelf.new) }
     ensures no_read_fault { IsErrOf result Unfound.ReadFault → ⊥ }
     ensures files { FilesStay (H.files shelf.old) (H.files shelf.new) }
     ensures begun { H.begun_name shelf.new ≡ None }
 {
     let name = log_name(alloc, job.size())?;
-    let formula = clauses_of(alloc, job)?;
+    let (formula, _) = clauses_of(alloc, job)?;
     judge_file(alloc, &formula, &name, shelf)
 }
 
@@ -139,7 +122,7 @@ fn verify_spec<H: Shelf>(
     shelf: &mut H,
 ) -> Result<Finding, Unfound>
     requires none_begun { H.begun_name shelf.old ≡ None }
-    ensures found { IfOk result (λ f. AnswersListed H.files H.finds H.given Solves (lists_box size spec.now) (job_of spec.now size) shelf.old shelf.new (answer_by f)) }
+    ensures found { IfOk result (λ f. AnswersListed H.files H.finds Solves (lists_box size spec.now) (job_of spec.now size) shelf.old shelf.new (answer_by f)) }
     ensures shelf_fault { IsErrOf result Unfound.ShelfFault → Rose (H.faults shelf.old) (H.faults shelf.new) }
     ensures asked { IsErrOf result Unfound.ShelfFault → lists_box size spec.now ≡ true }
     ensures no_read_fault { IsErrOf result Unfound.ReadFault → ⊥ }
@@ -162,7 +145,7 @@ pub(crate) fn verify<H: Shelf>(
     requires none_begun { H.begun_name shelf.old ≡ None }
 
     // The log is accepted exactly where its steps refute the clauses of the listed box. Then no diagram solves the box's job.
-    ensures found { IfOk result (λ f. AnswersVerify H.files H.finds H.given Solves size (spec_of bytes.now) shelf.old shelf.new (answer_by f)) }
+    ensures found { IfOk result (λ f. AnswersVerify H.files H.finds Solves size (spec_of bytes.now) shelf.old shelf.new (answer_by f)) }
     ensures shelf_fault { IsErrOf result Unfound.ShelfFault → Rose (H.faults shelf.old) (H.faults shelf.new) }
     ensures asked { IsErrOf result Unfound.ShelfFault → IsOkAnd (spec_of bytes.now) (λ b. lists_box size b ≡ true) }
     ensures no_read_fault { IsErrOf result Unfound.ReadFault → ⊥ }

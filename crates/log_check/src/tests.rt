@@ -1,7 +1,10 @@
 // Whole logs, accepted and rejected.
+ghost use Rattle.std.specs.Prelude.{◌≡◌, None, IfOk};
+
 use crate::{Check, check};
-use clause_log::ByteSteps;
+use clause_log::{StepReader, find_log};
 use cnf_base::{ClauseTake, Formula, Lit};
+use las_io::{MemShelf, NamedFile};
 use std::alloc::{AllocError, Global};
 use std::test::Fail;
 
@@ -15,12 +18,24 @@ fn two_variables(alloc: Global) -> Result<Formula, AllocError> {
     Ok(f)
 }
 
+// A shelf with one log.
+fn shelf_with(alloc: Global, log: &[u8]) -> Result<MemShelf, AllocError>
+    ensures { IfOk result (λ shelf. shelf.begun ≡ None) }
+{
+    let mut files = Vec::new(alloc);
+    let name = String::from_str(alloc, "a.log")?;
+    files.push(NamedFile::new(name, Vec::from_slice(alloc, log)?))?;
+    Ok(MemShelf::new(alloc, files, Vec::new(alloc)))
+}
+
+// What the log comes to, where it was found and read.
 fn judge(alloc: Global, log: &[u8]) -> Result<Option<Check>, AllocError> {
     let f = two_variables(alloc)?;
-    if log.len() > 1000 {
+    let mut shelf = shelf_with(alloc, log)?;
+    let Ok(Some(found)) = find_log(alloc, &mut shelf, "a.log") else {
         return Ok(None);
-    }
-    let mut steps = ByteSteps::new(alloc, Vec::from_slice(alloc, log)?);
+    };
+    let mut steps = StepReader::new(&mut shelf, found);
     Ok(check(alloc, &f, &mut steps).ok())
 }
 

@@ -4,7 +4,4 @@ use Rattle.las_top.proofs.VerifyLemmas.{log_judged}
 use Rattle.las_top.proofs.verify.judge_file.Goals as goal
 
 pub returns-in-Ok-Some-clause-found : goal.returns-in-Ok-Some-clause-found
-returns-in-Ok-Some-clause-found g c =
-    let present = rw c.in-Ok-Some.field-0-is at c.in-Ok-Some.ensures.found in
-    let told = rw c.in-Ok-Some.field-0-is at c.in-Ok-Some.ensures.told in
-    if_ok c.judge_bytes.result c.judge_bytes.ensures.found (λ f s. log_judged g.H.Shelf.files g.H.Shelf.finds g.H.Shelf.given c.args.shelf.now _ (answer_by f) c.args.formula.now c.args.name.now c.in-Ok-Some.bytes.items present told s)
+returns-in-Ok-Some-clause-found g c = ?
