@@ -12,6 +12,7 @@ use crate::{Step, StepRefused, Steps};
 use las_io::{IoBad, Shelf};
 use memchr::memchr;
 use std::alloc::{AllocError, Global};
+use std::marker::Model;
 
 // As many bytes of a log are taken at once.
 const PIECE: usize = 65536;
@@ -19,21 +20,30 @@ const PIECE: usize = 65536;
 // As many bytes of a log are taken at most: 2^40.
 const LIMIT: u64 = 1_099_511_627_776;
 
-/// A log that stands on a shelf, with the memory to read it.
+/// A log that stands on a shelf, with the memory to read it, seen as its name.
 #[derive(Drop)]
 pub struct FoundLog {
     alloc: Global,
     name: String,
     piece: Vec<u8>,
-    ghost lawful: { IsTrue (is_lawful_name (string_bytes name)) },
-    ghost some: { 0 < vec_len piece },
+}
+
+impl Model for FoundLog {
+    ghost use Rattle.std.specs.Prelude.{ℕ, ◌<◌, List, IsTrue, string_bytes, vec_len};
+    ghost use Rattle.las_io.specs.Names.{is_lawful_name};
+
+    ghost Value = { List ℕ };
+
+    ghost view = { λ l. string_bytes l.name };
+
+    ghost invariant = { λ l. IsTrue (is_lawful_name (string_bytes l.name)) × (0 < vec_len l.piece) };
 }
 
 impl FoundLog {
     // The log of this name, with memory for a piece of it.
     fn new(alloc: Global, name: &str) -> Result<FoundLog, AllocError>
         requires { IsTrue (is_lawful_name name.now) }
-        ensures { IfOk result (λ log. string_bytes log.name ≡ name.now) }
+        ensures { IfOk result (λ log. log ≡ name.now) }
     {
         let piece = vec![in alloc; 0u8; PIECE]?;
         let name = String::from_str(alloc, name)?;
@@ -53,7 +63,7 @@ pub fn find_log<H: Shelf>(
     // None exactly where the shelf's answer was none, and so where a shelf that tells its files has no such file.
     ensures found { IfOk result (λ log. H.finds shelf.old name.now (is_some log)) }
     ensures told { IfOk result (λ log. IfSome (H.files shelf.old) (λ fs. is_some log ≡ is_some (file_of fs name.now))) }
-    ensures name { IfOk result (λ log. IfSome log (λ l. string_bytes l.name ≡ name.now)) }
+    ensures name { IfOk result (λ log. IfSome log (λ l. l ≡ name.now)) }
     ensures files { FilesStay (H.files shelf.old) (H.files shelf.new) }
     ensures begun { H.begun_name shelf.new ≡ None }
     ensures cause { HasPieceCause (H.faults shelf.old) (H.faults shelf.new) result }
@@ -112,9 +122,8 @@ impl<'a, H: Shelf> StepReader<'a, H> {
         requires none_begun { H.begun_name shelf.old ≡ None }
         ensures same_shelf { result.shelf.ghost_name ≡ shelf.entry.ghost_name }
         ensures shelf { result.shelf.now ≡ shelf.old }
-        ensures name { string_bytes result.name ≡ string_bytes log.name }
-        ensures whole { has_failed result.failed (H.begun_name result.shelf.now) ≡ false }
-        ensures ahead { reader_ahead (string_bytes result.name) (hand_in result.piece.items result.at result.filled) result.taken result.line (H.files result.shelf.now) ≡ log_told (string_bytes log.name) (H.files shelf.old) }
+        ensures whole { ⟦<StepReader<'a, H> as Steps>⟧.failed result ≡ false }
+        ensures ahead { ⟦<StepReader<'a, H> as Steps>⟧.ahead result ≡ log_told log (H.files shelf.old) }
     {
         let FoundLog { alloc, name, piece } = log;
         StepReader {

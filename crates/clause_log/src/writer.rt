@@ -30,10 +30,10 @@ impl<'a, H: Shelf> LogWriter<'a, H> {
         requires begun { IsSome (H.begun_name shelf.old) }
         ensures same_shelf { result.shelf.ghost_name ≡ shelf.entry.ghost_name }
         ensures shelf { result.shelf.now ≡ shelf.old }
-        ensures unbroken { is_broken result.broken (H.begun_name result.shelf.now) ≡ false }
-        ensures no_steps { IfSome (steps_told result.count result.broken (H.begun_name result.shelf.now) (H.files result.shelf.now)) (λ steps. steps ≡ []) }
+        ensures unbroken { ⟦<LogWriter<'a, H> as LogTake>⟧.broken result ≡ false }
+        ensures no_steps { IfSome (⟦<LogWriter<'a, H> as LogTake>⟧.steps result) (λ steps. steps ≡ []) }
         ensures empty { IfSome (H.files shelf.old) (λ fs. begun_file (H.begun_name shelf.old) fs ≡ Some []
-            → steps_told result.count result.broken (H.begun_name result.shelf.now) (H.files result.shelf.now) ≡ Some []) }
+            → ⟦<LogWriter<'a, H> as LogTake>⟧.steps result ≡ Some []) }
     {
         LogWriter {
             shelf,

@@ -31,6 +31,8 @@ pub(crate) struct Script {
     left: Vec<String>,
     /// How many bytes a call moves at most.
     most: usize,
+    /// Other texts of names, each of which is a fault, from the one that is told first on.
+    faults: Vec<String>,
     /// The calls that fail in the next run, by their numbers from 0.
     fails: Vec<(Object, u64)>,
     shows_calls: bool,
@@ -52,6 +54,7 @@ impl Script {
             files: Vec::new(alloc),
             left: Vec::new(alloc),
             most: 4096,
+            faults: Vec::new(alloc),
             fails: Vec::new(alloc),
             shows_calls: false,
             hides_out: false,
@@ -85,6 +88,8 @@ impl Script {
             "some" => self.hides_counts = true,
             "run" => self.run(rest, said)?,
             "fronts" => self.run_fronts(rest, said)?,
+            "fault" => self.faults.push(String::from_str(self.alloc, rest)?)?,
+            "pairs" => self.run_pairs(rest, said)?,
             "keep" => self
                 .texts
                 .push(Named::new(self.alloc, rest, &self.last_out)?)?,
@@ -189,6 +194,35 @@ impl Script {
             }
         }
         Ok(())
+    }
+
+    // A run with each fault alone, and one with each two. Of these last only those are told that do not come out as
+    // with the first of the two.
+    fn run_pairs(&mut self, words: &str, said: &mut String) -> Result<()> {
+        let faults = std::mem::replace(&mut self.faults, Vec::new(self.alloc));
+        for (place, first) in faults.iter().enumerate() {
+            let alone = self.play_faulty(words, first, first)?;
+            write!(said, "{words} with {first}{alone}")?;
+            for second in faults.iter().skip(place) {
+                let both = self.play_faulty(words, first, second)?;
+                if both != alone {
+                    write!(said, "{words} with {first} and {second}{both}")?;
+                }
+            }
+        }
+        Ok(())
+    }
+
+    // What comes of a run with two faults. Of two texts of one name the first one's counts.
+    fn play_faulty(&mut self, words: &str, first: &str, second: &str) -> Result<String> {
+        let count = self.texts.len();
+        self.texts.push(Named::parse(self.alloc, second, '=')?)?;
+        self.texts.push(Named::parse(self.alloc, first, '=')?)?;
+        let source = self.replaced(&self.source)?;
+        let mut text = String::new(self.alloc);
+        let _ = self.play(words, source.as_bytes(), &mut text)?;
+        self.texts.truncate(count);
+        Ok(text)
     }
 
     // The words of a run, each with what stands for it.

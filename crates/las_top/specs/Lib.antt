@@ -6,6 +6,7 @@ pub mod Headline
 pub mod Verify
 pub mod Audit
 pub mod Zx
+pub mod Shown
 pub mod Runs
 pub mod Commands
 pub mod Sweep

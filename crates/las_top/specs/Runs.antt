@@ -1,5 +1,5 @@
 -- What a run is answered, by its words, by what came from its source, and by the shelf.
-use Rattle.std.specs.Prelude.{◌≡◌, ◌⊎◌, ℕ, ◌+◌, ◌≤◌, Bool, true, false, List, ◌++◌, length, codes, Option, Some, None, IfSome, option_map, Result, Ok, Err, IsOkAnd}
+use Rattle.std.specs.Prelude.{◌≡◌, ◌↔◌, ◌⊎◌, ℕ, ◌+◌, ◌≤◌, Bool, true, false, List, ◌++◌, length, codes, Option, Some, None, IfSome, option_map, Result, Ok, Err, IsOkAnd}
 use Rattle.std.specs.Io.KnownBytes.{Appends}
 use Rattle.las_base.specs.declared.Size.{Size}
 use Rattle.las_base.specs.Jobs.{Task}
@@ -20,6 +20,7 @@ use Rattle.las_top.specs.Answers.{Answer, refused}
 use Rattle.las_top.specs.Audit.{audit_answer}
 use Rattle.las_top.specs.Check.{check_answer}
 use Rattle.las_top.specs.Headline.{HasSolution, NoneSolves, ShowsFlows}
+use Rattle.las_top.specs.Shown.{ShowsListed, ShowsServed, ShowsValid}
 use Rattle.las_top.specs.Spec.{spec_answer}
 use Rattle.las_top.specs.Zx.{zx_answer}
 use Rattle.las_top.specs.Verify.{lists_box, log_answer}
@@ -55,9 +56,15 @@ most_bytes = 4194304
 
 -- ---- a document
 
--- what `zx` answers to the bytes of a document. Where it says yes, the labels that it shows obey the rules
+-- what `check` answers to the bytes of a document. It says yes exactly where the document shows a valid diagram
+pub record AnswersCheck (bytes : List ℕ) (answer : Answer) : Type 0 where
+  pub answer_is : answer ≡ check_answer bytes
+  pub exact : (answer.status ≡ Good) ↔ ShowsValid bytes
+
+-- what `zx` answers to the bytes of a document. It says yes exactly where the document's own sheets serve, and then the labels that it shows obey the rules
 pub record AnswersZx (bytes : List ℕ) (answer : Answer) : Type 0 where
   pub answer_is : answer ≡ zx_answer bytes
+  pub exact : (answer.status ≡ Good) ↔ ShowsServed bytes
   pub shows : answer.status ≡ Good → ShowsFlows bytes
 
 -- ---- the shelf
@@ -105,7 +112,7 @@ module _ {H : Type 0} (files : H → Option (List File)) (finds : H → List ℕ
     pub came : FetchesCount files fetched name before after (most + 1)
     pub answer_is : answer ≡ refused reason
 
-  -- these bytes came, all that the file has, and this is what `audit` answers to them. Where it says yes they give a diagram that solves its job
+  -- these bytes came, all that the file has, and this is what `audit` answers to them. It says yes exactly where their job is a listed one and their own sheets serve, and then their diagram solves its job
   pub record AnswersBytes (b : Brief) (name : List ℕ) (before after : H) (answer : Answer) : Type 0 where
     pub bytes : List ℕ
     pub present : finds before name true
@@ -113,6 +120,7 @@ module _ {H : Type 0} (files : H → Option (List File)) (finds : H → List ℕ
     pub told : IfSome (files before) (λ fs. file_of fs name ≡ Some bytes)
     pub within : length bytes ≤ most_bytes
     pub answer_is : answer ≡ audit_answer b bytes
+    pub exact : (answer.status ≡ Good) ↔ ShowsListed b bytes
     pub solves : answer.status ≡ Good → HasSolution bytes
 
   -- what is answered of a file, for a specification
@@ -126,7 +134,7 @@ module _ {H : Type 0} (files : H → Option (List File)) (finds : H → List ℕ
 
   -- what is answered to the bytes of the source
   abbrev pub AnswersAsked : (Task → Drawing → Type 0) → Asked → H → H → List ℕ → Answer → Type 0
-  AnswersAsked Solved Check before after bytes answer = (answer ≡ check_answer bytes) × (after ≡ before)
+  AnswersAsked Solved Check before after bytes answer = AnswersCheck bytes answer × (after ≡ before)
   AnswersAsked Solved Spec before after bytes answer = (answer ≡ spec_answer bytes) × (after ≡ before)
   AnswersAsked Solved Zx before after bytes answer = AnswersZx bytes answer × (after ≡ before)
   AnswersAsked Solved (Audit name) before after bytes answer = AnswersSpec name (spec_of bytes) before after answer

@@ -1,5 +1,5 @@
 // The command `audit`: whether a document solves one of the listed boxes.
-ghost use Rattle.std.specs.Prelude.{◌≡◌, None, true, IfOk, IsOkAnd, IsErrOf, IsTrue};
+ghost use Rattle.std.specs.Prelude.{◌≡◌, ◌↔◌, None, true, IfOk, IsOkAnd, IsErrOf, IsTrue};
 ghost use Rattle.std.specs.List.{list_all, list_any};
 ghost use Rattle.las_base.specs.Cells.{same_cell};
 ghost use Rattle.las_io.specs.Counts.{Rose};
@@ -10,6 +10,7 @@ ghost use Rattle.lasre_codec.specs.Documents.{IsLasre, lasre_as};
 ghost use Rattle.las_top.specs.Audit.{same_port, same_list, same_cells, same_job, same_pauli, is_listed, first_unserved, audit_of, audit_answer};
 ghost use Rattle.las_top.specs.Findings.{answer_by};
 ghost use Rattle.las_top.specs.Headline.{HasSolution};
+ghost use Rattle.las_top.specs.Shown.{ShowsListed};
 ghost use Rattle.las_top.specs.declared.run.Status.TheVariants.{Good};
 ghost use Rattle.las_top.specs.Runs.{AnswersFile, AnswersSpec, is_any};
 
@@ -145,6 +146,7 @@ fn audit_of(alloc: Global, spec: &Spec, lasre: &Lasre) -> Result<Finding, AllocE
 // What is found of the bytes of a document, for a specification.
 fn audit_bytes(alloc: Global, spec: &Spec, bytes: &[u8]) -> Result<Finding, AllocError>
     ensures answer { IfOk result (λ f. answer_by f ≡ audit_answer spec.now bytes.now) }
+    ensures exact { IfOk result (λ f. ((answer_by f).status ≡ Good) ↔ ShowsListed spec.now bytes.now) }
     ensures solves { IfOk result (λ f. (answer_by f).status ≡ Good → HasSolution bytes.now) }
 {
     match read_lasre(alloc, bytes) {

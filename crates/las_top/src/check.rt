@@ -1,8 +1,10 @@
 // The command `check`: the first breach of a document's diagram.
-ghost use Rattle.std.specs.Prelude.{◌≡◌, IfOk};
+ghost use Rattle.std.specs.Prelude.{◌≡◌, ◌↔◌, IfOk};
 ghost use Rattle.grid_box.specs.Breaches.{breach};
 ghost use Rattle.las_top.specs.Check.{check_answer};
 ghost use Rattle.las_top.specs.Findings.{answer_by};
+ghost use Rattle.las_top.specs.Shown.{ShowsValid};
+ghost use Rattle.las_top.specs.declared.run.Status.TheVariants.{Good};
 
 use crate::finding::{Finding, Refusal};
 use colour_rules::first_bad_colour;
@@ -26,7 +28,8 @@ pub(crate) fn first_breach(job: &Job, diagram: &Diagram) -> Option<Broken>
 
 /// What `check` finds in a document.
 pub(crate) fn check(alloc: Global, bytes: &[u8]) -> Result<Finding, AllocError>
-    ensures { IfOk result (λ f. answer_by f ≡ check_answer bytes.now) }
+    ensures answer { IfOk result (λ f. answer_by f ≡ check_answer bytes.now) }
+    ensures exact { IfOk result (λ f. ((answer_by f).status ≡ Good) ↔ ShowsValid bytes.now) }
 {
     match read_lasre(alloc, bytes) {
         Ok(document) => match first_breach(&document.job, &document.diagram) {

@@ -1,5 +1,5 @@
 // The command `verify`: whether the log of a listed box refutes the box's clauses.
-ghost use Rattle.std.specs.Prelude.{◌≡◌, None, Some, false, true, IfOk, IsOkAnd, IsErrOf, IsTrue, MatchOption, slice_get, string_bytes};
+ghost use Rattle.std.specs.Prelude.{◌≡◌, None, Some, false, true, IfOk, IsOkAnd, IsErrOf, IsTrue, MatchOption, slice_get};
 ghost use Rattle.las_io.specs.Counts.{Rose};
 ghost use Rattle.las_io.specs.Names.{is_lawful_name};
 ghost use Rattle.las_io.specs.Shelves.{FilesStay};
@@ -46,7 +46,7 @@ fn judge_log<H: Shelf>(
     shelf: &mut H,
 ) -> Result<Finding, Unfound>
     requires none_begun { H.begun_name shelf.old ≡ None }
-    ensures found { IfOk result (λ f. AnswersSteps formula.now (log_told (string_bytes log.name) (H.files shelf.old)) (answer_by f)) }
+    ensures found { IfOk result (λ f. AnswersSteps formula.now (log_told log (H.files shelf.old)) (answer_by f)) }
     ensures shelf_fault { IsErrOf result Unfound.ShelfFault → Rose (H.faults shelf.old) (H.faults shelf.new) }
     ensures no_read_fault { IsErrOf result Unfound.ReadFault → ⊥ }
     ensures files { FilesStay (H.files shelf.old) (H.files shelf.new) }

@@ -1,5 +1,5 @@
 // The command `zx`: the graph of a document's diagram, with the labels of each flow.
-ghost use Rattle.std.specs.Prelude.{◌≡◌, ℕ, ◌++◌, ◌<◌, [], None, length, slice_index_or, IfOk, OnOk};
+ghost use Rattle.std.specs.Prelude.{◌≡◌, ◌↔◌, ℕ, ◌++◌, ◌<◌, [], None, length, slice_index_or, IfOk, OnOk};
 ghost use Rattle.grid_box.specs.PipeRules.{IsValid};
 ghost use Rattle.grid_box.specs.Sheets.{Serves};
 ghost use Rattle.grid_box.specs.Surfaces.{sheets_of};
@@ -7,6 +7,7 @@ ghost use Rattle.lasre_codec.specs.Documents.{IsLasre, lasre_as};
 ghost use Rattle.zx_graph.specs.Graphs.{zx_of};
 ghost use Rattle.las_top.specs.Findings.{answer_by};
 ghost use Rattle.las_top.specs.Headline.{ShowsFlows};
+ghost use Rattle.las_top.specs.Shown.{ShowsServed};
 ghost use Rattle.las_top.specs.Zx.{flow_texts, zx_text, zx_of_lasre, zx_answer};
 ghost use Rattle.las_top.specs.declared.run.Status.TheVariants.{Good};
 
@@ -76,6 +77,7 @@ fn zx_of_lasre(alloc: Global, lasre: &Lasre) -> Result<Finding, AllocError>
 /// What `zx` finds in a document.
 pub(crate) fn zx(alloc: Global, bytes: &[u8]) -> Result<Finding, AllocError>
     ensures answer { IfOk result (λ f. answer_by f ≡ zx_answer bytes.now) }
+    ensures exact { IfOk result (λ f. ((answer_by f).status ≡ Good) ↔ ShowsServed bytes.now) }
     ensures shows { IfOk result (λ f. (answer_by f).status ≡ Good → ShowsFlows bytes.now) }
 {
     match read_lasre(alloc, bytes) {
