@@ -12,7 +12,7 @@ ghost use Rattle.las_top.specs.declared.run.Status.TheVariants.{Good};
 ghost use Rattle.las_top.specs.Runs.{AnswersFile, AnswersSpec, is_any};
 
 use crate::check::first_breach;
-use crate::finding::{Finding, Refusal, Unfound};
+use crate::finding::{FindRefused, Finding, Refusal};
 use crate::run::MOST_BYTES;
 use grid_box::Broken;
 use las_io::{FetchRefused, Shelf, fetch_all};
@@ -81,12 +81,12 @@ fn audit_file<H: Shelf>(
     spec: &Spec,
     name: &str,
     shelf: &mut H,
-) -> Result<Finding, Unfound>
+) -> Result<Finding, FindRefused>
     requires lawful { IsTrue (is_lawful_name name.now) }
     requires none_begun { H.begun_name shelf.old ≡ None }
     ensures found { IfOk result (λ f. AnswersFile H.files H.finds H.given spec.now name.now shelf.old shelf.new (answer_by f)) }
-    ensures shelf_fault { IsErrOf result Unfound.ShelfFault → Rose (H.faults shelf.old) (H.faults shelf.new) }
-    ensures no_read_fault { IsErrOf result Unfound.ReadFault → ⊥ }
+    ensures shelf_fault { IsErrOf result FindRefused.ShelfFault → Rose (H.faults shelf.old) (H.faults shelf.new) }
+    ensures no_read_fault { IsErrOf result FindRefused.ReadFault → ⊥ }
     ensures files { FilesStay (H.files shelf.old) (H.files shelf.new) }
     ensures begun { H.begun_name shelf.new ≡ None }
 {
@@ -94,8 +94,8 @@ fn audit_file<H: Shelf>(
         Ok(Some(bytes)) => Ok(audit_bytes(alloc, spec, &bytes)?),
         Ok(None) => Ok(Finding::Refused(Refusal::NoFile(String::from_str(alloc, name)?))),
         Err(FetchRefused::TooLong) => Ok(Finding::Refused(Refusal::LasreTooLong)),
-        Err(FetchRefused::ShelfFault) => Err(Unfound::ShelfFault),
-        Err(FetchRefused::Memory) => Err(Unfound::Memory),
+        Err(FetchRefused::ShelfFault) => Err(FindRefused::ShelfFault),
+        Err(FetchRefused::Memory) => Err(FindRefused::Memory),
     }
 }
 
@@ -105,19 +105,19 @@ pub(crate) fn audit<H: Shelf>(
     bytes: &[u8],
     name: &str,
     shelf: &mut H,
-) -> Result<Finding, Unfound>
+) -> Result<Finding, FindRefused>
     requires lawful { IsTrue (is_lawful_name name.now) }
     requires none_begun { H.begun_name shelf.old ≡ None }
     ensures found { IfOk result (λ f. AnswersSpec H.files H.finds H.given name.now (spec_of bytes.now) shelf.old shelf.new (answer_by f)) }
-    ensures shelf_fault { IsErrOf result Unfound.ShelfFault → Rose (H.faults shelf.old) (H.faults shelf.new) }
-    ensures asked { IsErrOf result Unfound.ShelfFault → IsOkAnd (spec_of bytes.now) (λ b. is_any b ≡ true) }
-    ensures no_read_fault { IsErrOf result Unfound.ReadFault → ⊥ }
+    ensures shelf_fault { IsErrOf result FindRefused.ShelfFault → Rose (H.faults shelf.old) (H.faults shelf.new) }
+    ensures asked { IsErrOf result FindRefused.ShelfFault → IsOkAnd (spec_of bytes.now) (λ b. is_any b ≡ true) }
+    ensures no_read_fault { IsErrOf result FindRefused.ReadFault → ⊥ }
     ensures files { FilesStay (H.files shelf.old) (H.files shelf.new) }
     ensures begun { H.begun_name shelf.new ≡ None }
 {
     match read_spec(alloc, bytes) {
         Ok(spec) => audit_file(alloc, &spec, name, shelf),
-        Err(SpecRefused::Memory) => Err(Unfound::Memory),
+        Err(SpecRefused::Memory) => Err(FindRefused::Memory),
         Err(refusal) => Ok(Finding::Refused(Refusal::Spec(refusal))),
     }
 }

@@ -15,7 +15,7 @@ ghost use Rattle.las_top.specs.Findings.{answer_by};
 ghost use Rattle.las_top.specs.Runs.{AnswersBoxLog, AnswersListed, AnswersLogFile, AnswersVerify};
 ghost use Rattle.las_top.specs.Verify.{AnswersSteps, lists_box};
 
-use crate::finding::{Finding, Refusal, Unfound};
+use crate::finding::{FindRefused, Finding, Refusal};
 use box_sweep::log_name;
 use clause_log::{ByteSteps, Steps};
 use cnf_base::Formula;
@@ -50,27 +50,27 @@ fn clauses_of(alloc: Global, job: &Job) -> Result<Formula, AllocError>
 }
 
 // What is found of the steps of a log, for a formula.
-fn judge<T: Steps>(alloc: Global, formula: &Formula, steps: &mut T) -> Result<Finding, Unfound>
+fn judge<T: Steps>(alloc: Global, formula: &Formula, steps: &mut T) -> Result<Finding, FindRefused>
     requires { T.failed steps.old ≡ false }
     ensures found { IfOk result (λ f. AnswersSteps formula.now (T.ahead steps.old) (answer_by f)) }
-    ensures shelf_fault { IsErrOf result Unfound.ShelfFault → Rose (T.faults steps.old) (T.faults steps.new) }
-    ensures no_read_fault { IsErrOf result Unfound.ReadFault → ⊥ }
+    ensures shelf_fault { IsErrOf result FindRefused.ShelfFault → Rose (T.faults steps.old) (T.faults steps.new) }
+    ensures no_read_fault { IsErrOf result FindRefused.ReadFault → ⊥ }
 {
     match check(alloc, formula, steps) {
         Ok(Check::Accepted) => Ok(Finding::Accepted),
         Ok(Check::Rejected { line, why }) => Ok(Finding::Rejected(line, why)),
         Err(CheckRefused::TooLong) => Ok(Finding::Refused(Refusal::LogTooLong)),
-        Err(CheckRefused::ShelfFault) => Err(Unfound::ShelfFault),
-        Err(CheckRefused::Memory) => Err(Unfound::Memory),
+        Err(CheckRefused::ShelfFault) => Err(FindRefused::ShelfFault),
+        Err(CheckRefused::Memory) => Err(FindRefused::Memory),
     }
 }
 
 // What is found of the bytes of a log, for a formula.
-fn judge_bytes(alloc: Global, formula: &Formula, bytes: Vec<u8>) -> Result<Finding, Unfound>
+fn judge_bytes(alloc: Global, formula: &Formula, bytes: Vec<u8>) -> Result<Finding, FindRefused>
     requires { vec_len bytes < 2 ^ 40 }
     ensures found { IfOk result (λ f. AnswersSteps formula.now (Some (ahead_in bytes.items 0 1)) (answer_by f)) }
-    ensures no_shelf_fault { IsErrOf result Unfound.ShelfFault → ⊥ }
-    ensures no_read_fault { IsErrOf result Unfound.ReadFault → ⊥ }
+    ensures no_shelf_fault { IsErrOf result FindRefused.ShelfFault → ⊥ }
+    ensures no_read_fault { IsErrOf result FindRefused.ReadFault → ⊥ }
 {
     let mut steps = ByteSteps::new(alloc, bytes);
     judge(alloc, formula, &mut steps)
@@ -82,12 +82,12 @@ fn judge_file<H: Shelf>(
     formula: &Formula,
     name: &str,
     shelf: &mut H,
-) -> Result<Finding, Unfound>
+) -> Result<Finding, FindRefused>
     requires lawful { IsTrue (is_lawful_name name.now) }
     requires none_begun { H.begun_name shelf.old ≡ None }
     ensures found { IfOk result (λ f. AnswersLogFile H.files H.finds H.given (IsRefuted formula.now.clauses) formula.now name.now shelf.old shelf.new (answer_by f)) }
-    ensures shelf_fault { IsErrOf result Unfound.ShelfFault → Rose (H.faults shelf.old) (H.faults shelf.new) }
-    ensures no_read_fault { IsErrOf result Unfound.ReadFault → ⊥ }
+    ensures shelf_fault { IsErrOf result FindRefused.ShelfFault → Rose (H.faults shelf.old) (H.faults shelf.new) }
+    ensures no_read_fault { IsErrOf result FindRefused.ReadFault → ⊥ }
     ensures files { FilesStay (H.files shelf.old) (H.files shelf.new) }
     ensures begun { H.begun_name shelf.new ≡ None }
 {
@@ -95,17 +95,17 @@ fn judge_file<H: Shelf>(
         Ok(Some(bytes)) => judge_bytes(alloc, formula, bytes),
         Ok(None) => Ok(Finding::Refused(Refusal::NoFile(String::from_str(alloc, name)?))),
         Err(FetchRefused::TooLong) => Ok(Finding::Refused(Refusal::LogTooLong)),
-        Err(FetchRefused::ShelfFault) => Err(Unfound::ShelfFault),
-        Err(FetchRefused::Memory) => Err(Unfound::Memory),
+        Err(FetchRefused::ShelfFault) => Err(FindRefused::ShelfFault),
+        Err(FetchRefused::Memory) => Err(FindRefused::Memory),
     }
 }
 
 // What is found of the log of a job's box.
-fn judge_job<H: Shelf>(alloc: Global, job: &Job, shelf: &mut H) -> Result<Finding, Unfound>
+fn judge_job<H: Shelf>(alloc: Global, job: &Job, shelf: &mut H) -> Result<Finding, FindRefused>
     requires none_begun { H.begun_name shelf.old ≡ None }
     ensures found { IfOk result (λ f. AnswersBoxLog H.files H.finds H.given Solves job.now shelf.old shelf.new (answer_by f)) }
-    ensures shelf_fault { IsErrOf result Unfound.ShelfFault → Rose (H.faults shelf.old) (H.faults shelf.new) }
-    ensures no_read_fault { IsErrOf result Unfound.ReadFault → ⊥ }
+    ensures shelf_fault { IsErrOf result FindRefused.ShelfFault → Rose (H.faults shelf.old) (H.faults shelf.new) }
+    ensures no_read_fault { IsErrOf result FindRefused.ReadFault → ⊥ }
     ensures files { FilesStay (H.files shelf.old) (H.files shelf.new) }
     ensures begun { H.begun_name shelf.new ≡ None }
 {
@@ -138,12 +138,12 @@ fn verify_spec<H: Shelf>(
     spec: &Spec,
     size: Size,
     shelf: &mut H,
-) -> Result<Finding, Unfound>
+) -> Result<Finding, FindRefused>
     requires none_begun { H.begun_name shelf.old ≡ None }
     ensures found { IfOk result (λ f. AnswersListed H.files H.finds H.given Solves (lists_box size spec.now) (job_of spec.now size) shelf.old shelf.new (answer_by f)) }
-    ensures shelf_fault { IsErrOf result Unfound.ShelfFault → Rose (H.faults shelf.old) (H.faults shelf.new) }
-    ensures asked { IsErrOf result Unfound.ShelfFault → lists_box size spec.now ≡ true }
-    ensures no_read_fault { IsErrOf result Unfound.ReadFault → ⊥ }
+    ensures shelf_fault { IsErrOf result FindRefused.ShelfFault → Rose (H.faults shelf.old) (H.faults shelf.new) }
+    ensures asked { IsErrOf result FindRefused.ShelfFault → lists_box size spec.now ≡ true }
+    ensures no_read_fault { IsErrOf result FindRefused.ReadFault → ⊥ }
     ensures files { FilesStay (H.files shelf.old) (H.files shelf.new) }
     ensures begun { H.begun_name shelf.new ≡ None }
 {
@@ -159,20 +159,20 @@ pub(crate) fn verify<H: Shelf>(
     bytes: &[u8],
     size: Size,
     shelf: &mut H,
-) -> Result<Finding, Unfound>
+) -> Result<Finding, FindRefused>
     requires none_begun { H.begun_name shelf.old ≡ None }
 
     // The log is accepted exactly where its steps refute the clauses of the listed box. Then no diagram solves the box's job.
     ensures found { IfOk result (λ f. AnswersVerify H.files H.finds H.given Solves size (spec_of bytes.now) shelf.old shelf.new (answer_by f)) }
-    ensures shelf_fault { IsErrOf result Unfound.ShelfFault → Rose (H.faults shelf.old) (H.faults shelf.new) }
-    ensures asked { IsErrOf result Unfound.ShelfFault → IsOkAnd (spec_of bytes.now) (λ b. lists_box size b ≡ true) }
-    ensures no_read_fault { IsErrOf result Unfound.ReadFault → ⊥ }
+    ensures shelf_fault { IsErrOf result FindRefused.ShelfFault → Rose (H.faults shelf.old) (H.faults shelf.new) }
+    ensures asked { IsErrOf result FindRefused.ShelfFault → IsOkAnd (spec_of bytes.now) (λ b. lists_box size b ≡ true) }
+    ensures no_read_fault { IsErrOf result FindRefused.ReadFault → ⊥ }
     ensures files { FilesStay (H.files shelf.old) (H.files shelf.new) }
     ensures begun { H.begun_name shelf.new ≡ None }
 {
     match read_spec(alloc, bytes) {
         Ok(spec) => verify_spec(alloc, &spec, size, shelf),
-        Err(SpecRefused::Memory) => Err(Unfound::Memory),
+        Err(SpecRefused::Memory) => Err(FindRefused::Memory),
         Err(refusal) => Ok(Finding::Refused(Refusal::Spec(refusal))),
     }
 }
