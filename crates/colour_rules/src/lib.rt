@@ -3,16 +3,15 @@
 //! first fails. Nothing takes memory.
 #![tactic(auto)]
 
-ghost use Rattle.std.specs.Prelude.{◌≡◌, not};
-ghost use Rattle.std.specs.List.{find};
-ghost use Rattle.las_base.specs.Cells.{IsNear};
+ghost use Rattle.std.specs.Prelude.{◌≡◌};
+ghost use Rattle.las_base.specs.Cells.{IsOnGrid};
 ghost use Rattle.grid_box.specs.Breaches.{colour_breach};
-ghost use Rattle.grid_box.specs.PipeRules.{colours_match, port_shows_z, named_cells};
-ghost use Rattle.colour_rules.specs.Tests.{keeps};
+ghost use Rattle.grid_box.specs.PipeRules.{colours_match, port_shows_z};
+ghost use Rattle.colour_rules.specs.Rules.{keeps};
 
 mod kinds;
 
-use grid_box::{Broken, Diagram, first_failing};
+use grid_box::{Broken, Diagram, first_breach};
 use kinds::{are_of_one_kind, port_shows_z_at};
 use las_base::{Axis, Cell};
 use las_spec::Job;
@@ -24,8 +23,11 @@ enum Rule {
     PortShowsZ,
 }
 
+// The rules by their numbers.
+const RULES: [(u8, Rule); 2] = [(7, Rule::ColoursMatch), (8, Rule::PortShowsZ)];
+
 fn colours_match(job: &Job, diagram: &Diagram, cell: Cell) -> bool
-    requires { IsNear cell }
+    requires { IsOnGrid cell }
     ensures { result ≡ colours_match job.now diagram.now cell }
 {
     let legs = diagram.legs(cell);
@@ -35,7 +37,7 @@ fn colours_match(job: &Job, diagram: &Diagram, cell: Cell) -> bool
 }
 
 fn port_shows_z(job: &Job, diagram: &Diagram, cell: Cell) -> bool
-    requires { IsNear cell }
+    requires { IsOnGrid cell }
     ensures { result ≡ port_shows_z job.now diagram.now cell }
 {
     let legs = diagram.legs(cell);
@@ -46,7 +48,7 @@ fn port_shows_z(job: &Job, diagram: &Diagram, cell: Cell) -> bool
 
 // Whether a rule holds at a cell.
 fn keeps(rule: Rule, job: &Job, diagram: &Diagram, cell: Cell) -> bool
-    requires { IsNear cell }
+    requires { IsOnGrid cell }
     ensures { result ≡ keeps rule job.now diagram.now cell }
 {
     match rule {
@@ -55,26 +57,14 @@ fn keeps(rule: Rule, job: &Job, diagram: &Diagram, cell: Cell) -> bool
     }
 }
 
-// The first cell that breaks a rule, among those at which a pipe of the box can end.
-fn first_breaking(rule: Rule, job: &Job, diagram: &Diagram) -> Option<Cell>
-    requires { diagram.now.size ≡ job.now.size }
-    ensures { result ≡ find (λ c. not (keeps rule job.now diagram.now c)) (named_cells job.now.size) }
-{
-    first_failing(diagram.size(), |cell| keeps(rule, job, diagram, cell))
-}
-
 /// The first breach of the rules of colours: of the least rule, and among these at the least cell.
 pub fn first_bad_colour(job: &Job, diagram: &Diagram) -> Option<Broken>
     requires { diagram.now.size ≡ job.now.size }
     ensures { result ≡ colour_breach job.now diagram.now }
 {
-    if let Some(cell) = first_breaking(Rule::ColoursMatch, job, diagram) {
-        return Some(Broken { rule: 7, cell });
-    }
-    if let Some(cell) = first_breaking(Rule::PortShowsZ, job, diagram) {
-        return Some(Broken { rule: 8, cell });
-    }
-    None
+    first_breach(&RULES, diagram.size(), |rule, cell| {
+        keeps(rule, job, diagram, cell)
+    })
 }
 
 #[cfg(test)]

@@ -10,3 +10,4 @@ pub mod StayLemmas
 pub mod FindLemmas
 pub mod SheetLemmas
 pub mod SheetBitLemmas
+pub mod BreachByLemmas

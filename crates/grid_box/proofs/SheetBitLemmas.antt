@@ -10,7 +10,7 @@ use Rattle.las_base.specs.declared.Axis.TheVariants.{I, J, K}
 use Rattle.las_base.specs.declared.Size.{Size}
 use Rattle.las_base.specs.Axes.{same_axis}
 use Rattle.las_base.specs.Cells.{volume, index, holds, numbers_from}
-use Rattle.las_base.specs.Jobs.{within_limits}
+use Rattle.las_base.specs.Jobs.{most_flows, within_limits}
 use Rattle.las_base.proofs.Blocks.{length-numbers_from, at_number}
 use Rattle.las_base.proofs.Indices.{index_below, cell_at, cell_at-index}
 use Rattle.grid_box.specs.Sheets.{Sheet, same_sheet}
@@ -141,7 +141,7 @@ puts s count bits flow x on long low p f y =
 pub kept_set : (s : Size) (count : ℕ) (bits : List Bool) (n : ℕ) (on : Bool) → AreKept s count bits → AreKept s count (set bits n on)
 kept_set s count bits n on old = record { limits = old.limits; few = old.few; bit_count = length-set bits n on ∙ old.bit_count }
 
-pub kept_clear : (s : Size) (count : ℕ) → within_limits s ≡ true → count ≤ 32 → AreKept s count (replicate (count * (6 * volume s)) false)
+pub kept_clear : (s : Size) (count : ℕ) → within_limits s ≡ true → count ≤ most_flows → AreKept s count (replicate (count * (6 * volume s)) false)
 kept_clear s count limits few = record { limits = limits; few = few; bit_count = length-replicate (count * (6 * volume s)) false }
 
 pub surfaces_kept : (s : Size) (count : ℕ) (bits : List Bool) → AreKept s count bits → IsSurfaces (surfaces_by s count bits)

@@ -6,7 +6,7 @@ pub mod Scans
 pub mod PipeRules
 pub mod Breaches
 pub mod Reach
-pub mod Tests
+pub mod CellTests
 pub mod Sheets
 pub mod Surfaces
 pub mod SheetBits

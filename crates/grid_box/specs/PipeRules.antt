@@ -45,27 +45,27 @@ for_ports_at t c test = list_all (λ p. same_cell p.place c ==> test p) t.ports
 abbrev pub is_port_leg : Port → Leg → Bool
 is_port_leg p l = same_axis l.axis p.axis && same_end l.which (end_of_way p.way)
 
--- 1. the high cell of each pipe is in the box or is a port's place
+-- V1: the high cell of each pipe is in the box or is a port's place
 abbrev pub stays_in_box : Task → Drawing → Cell → Bool
 stays_in_box t d c = list_all (λ p. same_cell p.cell c ==> (holds t.size (above p.axis c) || is_port_place t (above p.axis c))) d.pipes
 
--- 2. a port's place has the port's pipe as its one leg, and is no Y cell
+-- V2: a port's place has the port's pipe as its one leg, and is no Y cell
 abbrev pub has_port_pipe : Task → Drawing → Cell → Bool
 has_port_pipe t d c = for_ports_at t c (λ p. is_only (is_port_leg p) (legs d c) && not (is_y d c))
 
--- 3. a forbidden cell has no leg and is no Y cell
+-- V3: a forbidden cell has no leg and is no Y cell
 abbrev pub leaves_forbidden_empty : Task → Drawing → Cell → Bool
 leaves_forbidden_empty t d c = is_forbidden t c ==> (is_bare (legs d c) && not (is_y d c))
 
--- 4. a Y cube has one leg, and it is along K
+-- V4: a Y cube has one leg, and it is along K
 abbrev pub y_cube_has_one_k_leg : Task → Drawing → Cell → Bool
 y_cube_has_one_k_leg t d c = is_y d c ==> is_only (along K) (legs d c)
 
--- 5. a cell that is no port's place and no Y cell does not have exactly one leg
+-- V5: a cell that is no port's place and no Y cell does not have exactly one leg
 abbrev pub is_no_dead_end : Task → Drawing → Cell → Bool
 is_no_dead_end t d c = is_port_place t c || (is_y d c || not (nat_eq (length (legs d c)) 1))
 
--- 6. no cell has legs on three axes
+-- V6: no cell has legs on three axes
 abbrev pub has_no_three_axes : Task → Drawing → Cell → Bool
 has_no_three_axes t d c = not (list_all (has_leg_along (legs d c)) axes)
 
@@ -78,11 +78,11 @@ abbrev pub all_one_kind : List Kind → Bool
 all_one_kind [] = true
 all_one_kind (k ∷ ks) = all_kind k ks
 
--- 7. legs at one cell have the same kind on each axis that is normal to both
+-- V7: legs at one cell have the same kind on each axis that is normal to both
 abbrev pub colours_match : Task → Drawing → Cell → Bool
 colours_match t d c = list_all (λ b. all_one_kind (kinds_on b (legs d c))) axes
 
--- 8. a port's leg has kind Z on the port's z axis
+-- V8: a port's leg has kind Z on the port's z axis
 abbrev pub port_shows_z : Task → Drawing → Cell → Bool
 port_shows_z t d c = for_ports_at t c (λ p. list_all (λ l. is_port_leg p l ==> same_kind (kind_on l p.z_axis) Kind.Z) (legs d c))
 

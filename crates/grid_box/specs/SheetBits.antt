@@ -4,7 +4,7 @@ use Rattle.las_base.specs.declared.Axis.{Axis}
 use Rattle.las_base.specs.declared.Axis.TheVariants.{I, J, K}
 use Rattle.las_base.specs.declared.Size.{Size}
 use Rattle.las_base.specs.Cells.{volume, index, numbers_from}
-use Rattle.las_base.specs.Jobs.{within_limits}
+use Rattle.las_base.specs.Jobs.{most_flows, within_limits}
 use Rattle.grid_box.specs.Sheets.{Sheet}
 use Rattle.grid_box.specs.Surfaces.{Surfaces, surfaces_of, sheets_by}
 
@@ -32,5 +32,5 @@ surfaces_by s flow_count bits = surfaces_of s (map (λ f. sheets_by s (sheet_bit
 -- bits that stand for sheets
 pub record AreKept (s : Size) (flow_count : ℕ) (bits : List Bool) : Type 0 where
   pub limits : IsTrue (within_limits s)
-  pub few : flow_count ≤ 32
+  pub few : flow_count ≤ most_flows
   pub bit_count : length bits ≡ flow_count * (6 * volume s)

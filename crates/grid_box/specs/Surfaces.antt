@@ -5,7 +5,7 @@ use Rattle.las_base.specs.declared.Axis.{Axis}
 use Rattle.las_base.specs.declared.Axis.TheVariants.{I, J, K}
 use Rattle.las_base.specs.declared.Size.{Size}
 use Rattle.las_base.specs.Cells.{cells}
-use Rattle.las_base.specs.Jobs.{within_limits}
+use Rattle.las_base.specs.Jobs.{most_flows, within_limits}
 use Rattle.grid_box.specs.Sheets.{Sheet, same_sheet}
 
 -- the axes along which a pipe may lie, each with the axes that its sheets may span
@@ -41,10 +41,10 @@ sheets_of s flow = slice_index_or s.flows flow []
 abbrev pub AreInOrder : Size → List Sheet → Type 0
 AreInOrder s ss = ss ≡ sheets_by s (has_sheet ss)
 
--- what all sheets keep: a box within limits, at most 32 flows, and the sheets of each in order
+-- what all sheets keep: a box within limits, no more flows than a job may have, and the sheets of each in order
 pub record IsSurfaces (s : Surfaces) : Type 0 where
   pub limits : IsTrue (within_limits s.size)
-  pub count : length s.flows ≤ 32
+  pub count : length s.flows ≤ most_flows
   pub order : All (AreInOrder s.size) s.flows
 
 -- the new sheets have this one in this flow where it is put on, and not where it is put off, and else those of the old

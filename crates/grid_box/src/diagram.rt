@@ -1,7 +1,7 @@
 // A diagram as it is built: a slot for the pipe of each axis and low cell, and a bit for each Y cell.
 ghost use Rattle.std.specs.Prelude.{◌≡◌, ◌≢◌, ◌+◌, ◌*◌, ◌<◌, ◌≤◌, ◌++◌, [], IfOk, IsTrue};
 ghost use Rattle.std.specs.Option.{option_map, option_to_list};
-ghost use Rattle.las_base.specs.Cells.{holds, volume, IsSmall, IsNear};
+ghost use Rattle.las_base.specs.Cells.{holds, volume, FitsOnGrid, IsOnGrid};
 ghost use Rattle.las_base.specs.Jobs.{within_limits};
 ghost use Rattle.grid_box.specs.Drawings.{IsDrawing, drawing_of, kinds_at, is_y};
 ghost use Rattle.grid_box.specs.Legs.{legs, leg_of, pipe_end_at};
@@ -138,7 +138,7 @@ impl Diagram {
     /// The legs of a cell in the order of positions: on I, J and K, each time the pipe from below first.
     /// The cell may be one of the box or one step beyond a far face: each coordinate is 32 at most.
     pub fn legs(&self, cell: Cell) -> ArrayVec<Leg, 6>
-        requires { IsNear cell }
+        requires { IsOnGrid cell }
         ensures { result.items ≡ legs self.now cell }
     {
         let mut legs = ArrayVec::new();
@@ -152,7 +152,7 @@ impl Diagram {
 
     // The leg at one position of a cell.
     fn leg_at(&self, cell: Cell, axis: Axis, way: Way) -> Option<Leg>
-        requires { IsNear cell }
+        requires { IsOnGrid cell }
         ensures { result ≡ option_map leg_of (pipe_end_at self.now cell (axis, way)) }
     {
         match way {

@@ -10,24 +10,14 @@ ghost use Rattle.grid_box.specs.Legs.{has_leg_along, kind_on, end_of_way};
 ghost use Rattle.grid_box.specs.PipeRules.{is_port_leg};
 
 mod diagram;
-mod examples;
-mod laws;
+pub mod examples;
+pub mod laws;
 mod scan;
 mod sheets;
 
 pub use diagram::Diagram;
-pub use examples::{
-    colours_differ_at_0_0_1, column_is_valid, comb_has_flow_zz, comb_is_valid,
-    forbidden_cell_is_used_at_0_0_1, one_leg_is_a_dead_end_at_0_0_0, port_shows_x_at_0_0_0,
-    three_axes_meet_at_0_0_1, wire_has_both_flows, wire_is_valid, wire_needs_a_sheet,
-    y_cube_ends_a_leg,
-};
 use las_base::{Axis, Cell, End, Kind, Port, Way};
-pub use laws::{
-    ends_are_named, look_ups_tell, no_breach_is_valid, pipe_ends_by_scan, sheets_tell,
-    stays_by_axes,
-};
-pub use scan::first_failing;
+pub use scan::first_breach;
 pub use sheets::Sheets;
 
 /// The end of a pipe that stands at a cell.

@@ -1,7 +1,7 @@
 // Correlation surfaces as they are kept: a bit for each flow, each pair of axes of a sheet, and each low cell.
 ghost use Rattle.std.specs.Prelude.{◌≡◌, ◌≢◌, ◌*◌, ◌<◌, ◌≤◌, [], length, replicate, IfOk, IsTrue};
 ghost use Rattle.las_base.specs.Cells.{holds, volume};
-ghost use Rattle.las_base.specs.Jobs.{within_limits};
+ghost use Rattle.las_base.specs.Jobs.{most_flows, within_limits};
 ghost use Rattle.grid_box.specs.SheetBits.{pair_number, bit_number};
 ghost use Rattle.grid_box.specs.Surfaces.{IsSurfaces, PutsSheet, has_sheet, sheets_of, surfaces_of};
 
@@ -32,7 +32,7 @@ impl Sheets {
     /// No flow has a sheet.
     pub fn new(alloc: Global, size: Size, flows: usize) -> Result<Sheets, AllocError>
         requires limits { IsTrue (within_limits size) }
-        requires count { flows ≤ 32 }
+        requires count { flows ≤ most_flows }
         ensures empty { IfOk result (λ s. s ≡ surfaces_of size (replicate flows [])) }
         ensures kept { IfOk result (λ s. IsSurfaces s) }
     {
@@ -89,7 +89,7 @@ impl Sheets {
 // Bits stand by flow, then by pair of axes, and then by cell.
 fn bit_number(size: Size, flow: usize, axis: Axis, cell: Cell, span: Axis) -> usize
     requires limits { IsTrue (within_limits size) }
-    requires flow { flow < 32 }
+    requires flow { flow < most_flows }
     requires held { IsTrue (holds size cell) }
     ensures { result ≡ bit_number size flow (record { axis = axis; cell = cell; span = span }) }
 {

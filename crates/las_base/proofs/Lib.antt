@@ -2,3 +2,4 @@ pub mod Blocks
 pub mod Rising
 pub mod Indices
 pub mod Same
+pub mod Sides

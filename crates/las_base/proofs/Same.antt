@@ -7,7 +7,7 @@ use Rattle.las_base.specs.declared.Axis.TheVariants.{I, J, K}
 use Rattle.las_base.specs.declared.Cell.{Cell}
 use Rattle.las_base.specs.declared.Size.{Size}
 use Rattle.las_base.specs.Axes.{same_axis}
-use Rattle.las_base.specs.Cells.{same_cell, holds, cells, index}
+use Rattle.las_base.specs.Cells.{same_cell, same_size, holds, cells, index}
 use Rattle.las_base.proofs.Blocks.{all_indexed, all_held}
 
 pub same_cell-is : (x y : Cell) → same_cell x y ≡ true → x ≡ y
@@ -21,6 +21,18 @@ same_cell-is x y e =
 
 pub same_cell-refl : (x : Cell) → same_cell x x ≡ true
 same_cell-refl x = rw (eq-eqb x.i x.i refl, eq-eqb x.j x.j refl, eq-eqb x.k x.k refl) refl
+
+pub same_size-is : (s t : Size) → same_size s t ≡ true → s ≡ t
+same_size-is s t e =
+    let p = and_parts (nat_eq s.i t.i) (nat_eq s.j t.j && nat_eq s.k t.k) e in
+    let q = and_parts (nat_eq s.j t.j) (nat_eq s.k t.k) p.1 in
+    let ei : s.i ≡ t.i = eqb-true s.i t.i p.0 in
+    let ej : s.j ≡ t.j = eqb-true s.j t.j q.0 in
+    let ek : s.k ≡ t.k = eqb-true s.k t.k q.1 in
+    λ x. record { i = ei x; j = ej x; k = ek x }
+
+pub same_size-refl : (s : Size) → same_size s s ≡ true
+same_size-refl s = rw (eq-eqb s.i s.i refl, eq-eqb s.j s.j refl, eq-eqb s.k s.k refl) refl
 
 pub same_axis-is : (a b : Axis) → same_axis a b ≡ true → a ≡ b
 same_axis-is I I e = refl
@@ -47,7 +59,10 @@ same_test false false f g = refl
 pub same_cell-sym : (x y : Cell) → same_cell x y ≡ same_cell y x
 same_cell-sym x y = same_test _ _ (λ e. rw (same_cell-is x y e) (same_cell-refl y)) (λ e. rw (same_cell-is y x e) (same_cell-refl x))
 
-any_at : {X : Type 0} (test : X → Bool) (xs : List X) (n : ℕ) (x : X) → slice_get xs n ≡ Some x → test x ≡ true → list_any test xs ≡ true
+pub same_size-sym : (s t : Size) → same_size s t ≡ same_size t s
+same_size-sym s t = same_test _ _ (λ e. rw (same_size-is s t e) (same_size-refl t)) (λ e. rw (same_size-is t s e) (same_size-refl s))
+
+pub any_at : {X : Type 0} (test : X → Bool) (xs : List X) (n : ℕ) (x : X) → slice_get xs n ≡ Some x → test x ≡ true → list_any test xs ≡ true
 any_at test [] n x e t = absurd (cc)
 any_at test (y ∷ ys) zero x e t = let same : y ≡ x = cc in rw (same, t) refl
 any_at test (y ∷ ys) (suc n) x e t = rw (any_at test ys n x e t) (or_true (test y))
@@ -56,7 +71,7 @@ any_at test (y ∷ ys) (suc n) x e t = rw (any_at test ys n x e t) (or_true (tes
     or_true true = refl
     or_true false = refl
 
-none_any : {X : Type 0} (test : X → Bool) (xs : List X) → list_all (λ x. not (test x)) xs ≡ true → list_any test xs ≡ false
+pub none_any : {X : Type 0} (test : X → Bool) (xs : List X) → list_all (λ x. not (test x)) xs ≡ true → list_any test xs ≡ false
 none_any test [] h = refl
 none_any test (x ∷ xs) h =
     let p = and_parts (not (test x)) (list_all (λ x. not (test x)) xs) h in

@@ -8,6 +8,14 @@ use Rattle.las_base.specs.declared.Way.TheVariants.{Plus, Minus}
 use Rattle.las_base.specs.declared.Cell.{Cell}
 use Rattle.las_base.specs.declared.Size.{Size}
 
+-- the longest side of a box
+abbrev pub most_side : ℕ
+most_side = 32
+
+-- the most cells of a box
+abbrev pub most_volume : ℕ
+most_volume = 512
+
 -- a cell's coordinate along an axis
 abbrev pub coordinate : Cell → Axis → ℕ
 coordinate c I = c.i
@@ -28,17 +36,17 @@ volume s = s.i * s.j * s.k
 abbrev pub holds : Size → Cell → Bool
 holds s c = nat_lt c.i s.i && (nat_lt c.j s.j && nat_lt c.k s.k)
 
--- each side is 33 at most, as that of a widened box is
-abbrev pub IsSmall : Size → Type 0
-IsSmall s = (s.i ≤ 33) × (s.j ≤ 33) × (s.k ≤ 33)
+-- the box is on the grid: each side is one more at most than the longest, as that of a widened box is
+abbrev pub FitsOnGrid : Size → Type 0
+FitsOnGrid s = (s.i ≤ most_side + 1) × (s.j ≤ most_side + 1) × (s.k ≤ most_side + 1)
 
 -- the box with one cell more on each far side: it has every cell at which a pipe of the box ends
 abbrev pub widened : Size → Size
 widened s = record { i = s.i + 1; j = s.j + 1; k = s.k + 1 }
 
--- each coordinate is 32 at most, so that there is a cell one up
-abbrev pub IsNear : Cell → Type 0
-IsNear c = (c.i ≤ 32) × (c.j ≤ 32) × (c.k ≤ 32)
+-- the cell is on the grid: it is one of the widest box, or one step beyond its far faces
+abbrev pub IsOnGrid : Cell → Type 0
+IsOnGrid c = (c.i ≤ most_side) × (c.j ≤ most_side) × (c.k ≤ most_side)
 
 -- where a cell of the box stands in the order of cells
 abbrev pub index : Size → Cell → ℕ
@@ -47,6 +55,10 @@ index s c = (c.i * s.j + c.j) * s.k + c.k
 -- the cells are one
 abbrev pub same_cell : Cell → Cell → Bool
 same_cell a b = nat_eq a.i b.i && (nat_eq a.j b.j && nat_eq a.k b.k)
+
+-- the sizes are one
+abbrev pub same_size : Size → Size → Bool
+same_size s t = nat_eq s.i t.i && (nat_eq s.j t.j && nat_eq s.k t.k)
 
 -- the first cell stands before the second: by i, then j, then k
 abbrev pub cell_before : Cell → Cell → Bool

@@ -4,9 +4,29 @@
 #![tactic(auto)]
 
 ghost use Rattle.std.specs.Prelude.{◌≡◌, ◌≢◌, ◌<◌, ◌≤◌, IsTrue, Some, slice_get};
-ghost use Rattle.las_base.specs.Axes.{next_axis, third_axis, other_kind, swapped};
-ghost use Rattle.las_base.specs.Cells.{coordinate, side, volume, holds, index, cells, above, below, low_cell, stepped, widened, IsSmall, IsNear, AllIndexed, AllRise, ListedIsHeld};
+ghost use Rattle.las_base.specs.Axes.{next_axis, third_axis, other_kind, swapped, has_part, pauli};
+ghost use Rattle.las_base.specs.Cells.{coordinate, side, volume, holds, index, cells, above, below, low_cell, stepped, widened, FitsOnGrid, IsOnGrid};
 ghost use Rattle.las_base.specs.Jobs.{within_limits, port_fits};
+ghost use Rattle.las_base.specs.Texts.{size_text};
+
+pub mod laws;
+
+use std::fmt;
+
+/// The longest side of a box, in cells.
+pub const MOST_SIDE: u32 = 32;
+
+/// The most cells of a box.
+pub const MOST_VOLUME: u32 = 512;
+
+/// The most ports of a job.
+pub const MOST_PORTS: usize = 32;
+
+/// The most flows of a job.
+pub const MOST_FLOWS: usize = 32;
+
+/// The most boxes in which one job is asked.
+pub const MOST_BOXES: usize = 64;
 
 /// A direction of the grid. I and J are space, K is time. The cyclic order is I, J, K and round again.
 #[derive(Clone, Copy, PartialEq, Eq, PartialOrd, Ord, Hash, Debug)]
@@ -58,9 +78,8 @@ impl Axis {
         }
     }
 
-    /// The axis that is neither of the two.
+    /// The axis that is neither of the two, or the next one where they are one.
     pub fn third(self, other: Axis) -> Axis
-        requires { self ≢ other }
         ensures { result ≡ third_axis self other }
     {
         if self.next() == other {
@@ -95,6 +114,28 @@ impl Pauli {
             Pauli::Z => Pauli::X,
         }
     }
+
+    /// The Pauli with these parts: One where there is none, and Y where there are both.
+    pub fn of_parts(x: bool, z: bool) -> Pauli
+        ensures { result ≡ pauli x z }
+    {
+        match (x, z) {
+            (false, false) => Pauli::One,
+            (true, false) => Pauli::X,
+            (false, true) => Pauli::Z,
+            (true, true) => Pauli::Y,
+        }
+    }
+
+    /// Whether it has a part of a kind. Y has both.
+    pub fn has_part(self, kind: Kind) -> bool
+        ensures { result ≡ has_part kind self }
+    {
+        matches!(
+            (kind, self),
+            (_, Pauli::Y) | (Kind::X, Pauli::X) | (Kind::Z, Pauli::Z)
+        )
+    }
 }
 
 /// A place of the grid. Cells are ordered by i, then j, then k.
@@ -127,25 +168,26 @@ impl Size {
 
     /// How many cells the box has.
     pub fn volume(self) -> u32
-        requires { IsSmall self }
+        requires { FitsOnGrid self }
         ensures { result ≡ volume self }
     {
         self.i * self.j * self.k
     }
 
-    /// Whether a job or a diagram may have this size: each side is 1 to 32, and the volume is 512 at most.
+    /// Whether a job or a diagram may have this size: each side is 1 to `MOST_SIDE`, and the volume is
+    /// `MOST_VOLUME` at most.
     pub fn is_within_limits(self) -> bool
         ensures { result ≡ within_limits self }
     {
-        (1..=32).contains(&self.i)
-            && (1..=32).contains(&self.j)
-            && (1..=32).contains(&self.k)
-            && self.volume() <= 512
+        (1..=MOST_SIDE).contains(&self.i)
+            && (1..=MOST_SIDE).contains(&self.j)
+            && (1..=MOST_SIDE).contains(&self.k)
+            && self.volume() <= MOST_VOLUME
     }
 
     /// The box with one cell more on each far side. It has every cell at which a pipe of this box ends.
     pub fn widened(self) -> Size
-        requires { IsSmall self }
+        requires { FitsOnGrid self }
         ensures { result ≡ widened self }
     {
         Size {
@@ -164,7 +206,7 @@ impl Size {
 
     /// Where a cell of the box stands in the order of cells, counted from 0.
     pub fn index(self, cell: Cell) -> usize
-        requires small { IsSmall self }
+        requires small { FitsOnGrid self }
         requires held { IsTrue (holds self cell) }
         ensures value { result ≡ index self cell }
         ensures below { result < volume self }
@@ -188,6 +230,15 @@ impl Size {
     }
 }
 
+/// The sides with `x` between, as in `2x3x4`.
+impl fmt::Display for Size {
+    ghost output = { λ s. Some (size_text s) };
+
+    fn fmt<W: fmt::Write>(&self, f: &mut fmt::Formatter<W>) -> fmt::Result {
+        write!(f, "{}x{}x{}", self.i, self.j, self.k)
+    }
+}
+
 impl Cell {
     /// The coordinate along an axis.
     pub fn coordinate(self, axis: Axis) -> u32
@@ -202,7 +253,7 @@ impl Cell {
 
     /// The cell one step along an axis. None exactly where the way is Minus and the coordinate is 0.
     pub fn step(self, axis: Axis, way: Way) -> Option<Cell>
-        requires { IsNear self }
+        requires { IsOnGrid self }
         ensures { result ≡ stepped self axis way }
     {
         match way {
@@ -212,7 +263,7 @@ impl Cell {
     }
 
     fn above(self, axis: Axis) -> Cell
-        requires { IsNear self }
+        requires { IsOnGrid self }
         ensures { result ≡ above axis self }
     {
         match axis {
@@ -284,21 +335,6 @@ impl Port {
     }
 }
 
-/// A cell of a box stands at its index.
-pub fn cells_by_index()
-    ensures { AllIndexed }
-{}
-
-/// The cells of a box stand in order.
-pub fn cells_rise()
-    ensures { AllRise }
-{}
-
-/// The cells that are listed are those that the box holds.
-pub fn listed_is_held()
-    ensures { ListedIsHeld }
-{}
-
 #[cfg(test)]
 mod tests {
     use super::*;
@@ -316,7 +352,12 @@ mod tests {
         assert_eq!(rt; Axis::K.next(), Axis::I);
         assert_eq!(rt; Axis::K.third(Axis::I), Axis::J);
         assert_eq!(rt; Kind::X.other(), Kind::Z);
+        assert_eq!(rt; Axis::K.third(Axis::K), Axis::I);
         assert_eq!(rt; Pauli::Y.swap(), Pauli::Y);
+        for pauli in [Pauli::One, Pauli::X, Pauli::Y, Pauli::Z] {
+            let (x, z) = (pauli.has_part(Kind::X), pauli.has_part(Kind::Z));
+            assert_eq!(rt; Pauli::of_parts(x, z), pauli);
+        }
         assert_eq!(rt; BOX.side(Axis::J), 3);
         assert_eq!(rt; BOX.volume(), 24);
         assert_eq!(rt; BOX.widened(), Size { i: 3, j: 4, k: 5 });

@@ -11,17 +11,15 @@ use Rattle.las_base.specs.declared.Cell.{Cell}
 use Rattle.las_base.specs.declared.Size.{Size}
 use Rattle.las_base.specs.declared.Port.{Port}
 use Rattle.las_base.specs.Axes.{same_axis}
-use Rattle.las_base.specs.Cells.{holds, same_cell}
+use Rattle.las_base.specs.Cells.{holds, same_cell, same_size}
 use Rattle.las_base.specs.Jobs.{IsTask, task_of, within_limits, port_fits, distinct_cells}
-use Rattle.las_base.proofs.Same.{same_cell-sym}
+use Rattle.las_base.proofs.Same.{same_cell-sym, same_size-is, same_size-sym, none_any}
 use Rattle.las_spec.specs.declared.draft.WrittenPort.{WrittenPort}
 use Rattle.las_spec.specs.declared.refusal.SpecRefused.{SpecRefused}
 use Rattle.las_spec.specs.declared.refusal.SpecRefused.TheVariants.{SizeOut, PortCount, PortWay, PortBasis, PortPlace, PortTwice, FlowCount, FlowLength, FlowLetter, ForbiddenPlace, BoxCount, BoxSize, BoxPort}
 use Rattle.las_spec.specs.Written.{Written, port_written}
 use Rattle.las_spec.specs.Refusals.{first_of, unless, is_count, has_bad_basis, fits_at, first_repeat, first_bad_letter, carried, first_bad_port, first_bad_box, port_refusals, flow_refusals, box_refusals, job_refusal, refusal}
-use Rattle.las_spec.specs.Briefs.{IsBrief, brief_of, same_size, once, port_of, letters_of, task_written, brief_written, port_carried}
-use Rattle.las_spec.proofs.Lists.{none_any}
-use Rattle.las_spec.proofs.Distinct.{same_size-is, same_size-sym}
+use Rattle.las_spec.specs.Briefs.{IsBrief, brief_of, once, port_of, letters_of, task_written, brief_written, port_carried}
 use Rattle.las_spec.proofs.OnceLemmas.{apart, and_true, apart-push, once-all, once-most, once-some, once-apart, filter-apart, apart-cells, apart-sizes}
 use Rattle.las_spec.proofs.WrittenLemmas.{none_found, ports_written, words_written}
 

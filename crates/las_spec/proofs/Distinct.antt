@@ -1,14 +1,14 @@
 -- Lists in which nothing stands twice.
-use Rattle.std.proofs.Common.{◌≡◌, Bool, true, false, ◌&&◌, not, nat_eq, List, [], ◌∷◌, ◌++◌, refl, sym, ◌∙◌, append_assoc, append-nil}
+use Rattle.std.proofs.Common.{◌≡◌, Bool, true, false, not, List, [], ◌∷◌, ◌++◌, refl, sym, ◌∙◌, append_assoc, append-nil}
 use Rattle.std.specs.List.{list_all, list_any}
-use Rattle.std.proofs.lemmas.Bool.{and_parts, or_parts, not-true, eqb-true, eq-eqb}
+use Rattle.std.proofs.lemmas.Bool.{and_parts, or_parts, not-true}
 use Rattle.las_base.specs.declared.Cell.{Cell}
 use Rattle.las_base.specs.declared.Size.{Size}
-use Rattle.las_base.specs.Cells.{same_cell}
+use Rattle.las_base.specs.Cells.{same_cell, same_size}
 use Rattle.las_base.specs.Jobs.{distinct_cells}
-use Rattle.las_base.proofs.Same.{same_cell-sym, same_test}
-use Rattle.las_spec.specs.Briefs.{same_size, once, distinct_sizes}
-use Rattle.las_spec.proofs.Lists.{all_so, all_push, none_any}
+use Rattle.las_base.proofs.Same.{same_cell-sym, same_size-sym, none_any}
+use Rattle.las_spec.specs.Briefs.{once, distinct_sizes}
+use Rattle.las_spec.proofs.Lists.{all_so, all_push}
 use Rattle.las_spec.proofs.OnceLemmas.{apart, apart-cells, apart-sizes}
 
 -- none of those that were seen stands in the list
@@ -38,21 +38,6 @@ module _ {X : Type 0} (same : X → X → Bool) (both_ways : (x y : X) → same 
   -- once each is all
   pub once_each : (xs : List X) → apart same xs ≡ true → once same [] xs ≡ xs
   once_each xs d = all_kept [] xs refl d
-
-pub same_size-is : (s t : Size) → same_size s t ≡ true → s ≡ t
-same_size-is s t e =
-    let p = and_parts (nat_eq s.i t.i) (nat_eq s.j t.j && nat_eq s.k t.k) e in
-    let q = and_parts (nat_eq s.j t.j) (nat_eq s.k t.k) p.1 in
-    let ei : s.i ≡ t.i = eqb-true s.i t.i p.0 in
-    let ej : s.j ≡ t.j = eqb-true s.j t.j q.0 in
-    let ek : s.k ≡ t.k = eqb-true s.k t.k q.1 in
-    λ x. record { i = ei x; j = ej x; k = ek x }
-
-pub same_size-refl : (s : Size) → same_size s s ≡ true
-same_size-refl s = rw (eq-eqb s.i s.i refl, eq-eqb s.j s.j refl, eq-eqb s.k s.k refl) refl
-
-pub same_size-sym : (s t : Size) → same_size s t ≡ same_size t s
-same_size-sym s t = same_test _ _ (λ e. rw (same_size-is s t e) (same_size-refl t)) (λ e. rw (same_size-is t s e) (same_size-refl s))
 
 pub cells_once : (cs : List Cell) → distinct_cells cs ≡ true → once same_cell [] cs ≡ cs
 cells_once cs d = once_each same_cell same_cell-sym cs (apart-cells cs ∙ d)

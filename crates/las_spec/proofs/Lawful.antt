@@ -9,17 +9,17 @@ use Rattle.las_base.specs.declared.Cell.{Cell}
 use Rattle.las_base.specs.declared.Size.{Size}
 use Rattle.las_base.specs.declared.Port.{Port}
 use Rattle.las_base.specs.Axes.{same_axis}
-use Rattle.las_base.specs.Cells.{holds, same_cell}
+use Rattle.las_base.specs.Cells.{holds, same_cell, same_size}
 use Rattle.las_base.specs.Jobs.{Task, IsTask, within_limits, port_fits, distinct_cells}
-use Rattle.las_base.proofs.Same.{same_cell-sym}
+use Rattle.las_base.proofs.Same.{same_cell-sym, same_size-refl}
 use Rattle.las_spec.specs.declared.refusal.SpecRefused.{SpecRefused}
 use Rattle.las_spec.specs.declared.refusal.SpecRefused.TheVariants.{SizeOut, PortCount, PortWay, PortBasis, PortPlace, PortTwice, FlowCount, FlowLength, FlowLetter, ForbiddenPlace, BoxCount, BoxSize, BoxPort}
 use Rattle.las_spec.specs.Written.{Written, port_written, written_by}
 use Rattle.las_spec.specs.Refusals.{first_of, unless, is_count, has_bad_basis, fits_at, first_repeat, first_bad_letter, carried, first_bad_port, first_bad_box, port_refusals, flow_refusals, job_refusals, box_refusals, job_refusal, refusal}
-use Rattle.las_spec.specs.Briefs.{Brief, IsBrief, brief_of, once, same_size, port_of, letters_of, port_carried, judged, job_given, spec_given, task_written, brief_written}
+use Rattle.las_spec.specs.Briefs.{Brief, IsBrief, brief_of, once, port_of, letters_of, port_carried, judged, job_given, spec_given, task_written, brief_written}
 use Rattle.las_spec.proofs.Lists.{all_of_each, all_so, no_position, no_position_made, map_back, filter_back}
 use Rattle.las_spec.proofs.OnceLemmas.{apart, apart-cells}
-use Rattle.las_spec.proofs.Distinct.{unseen, first_is_new, first_not_seen, rest_is_apart, same_size-refl, cells_once, sizes_once}
+use Rattle.las_spec.proofs.Distinct.{unseen, first_is_new, first_not_seen, rest_is_apart, cells_once, sizes_once}
 use Rattle.las_spec.proofs.Members.{brief_writes}
 
 -- ---- rows of the table

@@ -1,8 +1,8 @@
 -- Lists of which each element passes a test, and lists that were made from others.
-use Rattle.std.proofs.Common.{◌≡◌, ℕ, ◌+◌, Bool, true, false, not, cond, nat_lt, List, [], ◌∷◌, ◌++◌, map, length, Option, Some, None, refl, ap, ◌∙◌, arith}
+use Rattle.std.proofs.Common.{◌≡◌, ℕ, ◌+◌, Bool, true, not, cond, nat_lt, List, [], ◌∷◌, ◌++◌, map, length, Option, Some, None, refl, ap, ◌∙◌, arith}
 use Rattle.std.specs.Prelude.{option_map, option_and_then, position}
-use Rattle.std.specs.List.{list_all, list_any, filter_map, prefix_len}
-use Rattle.std.proofs.lemmas.Bool.{and_parts, and_from, le-ltb, not-true}
+use Rattle.std.specs.List.{list_all, filter_map, prefix_len}
+use Rattle.std.proofs.lemmas.Bool.{and_parts, and_from, le-ltb}
 use Rattle.std.proofs.lemmas.List.Folds.{list_all-map}
 use Rattle.serde_json.specs.Data.{Data}
 use Rattle.json_shape.specs.Arrays.{each}
@@ -56,9 +56,3 @@ all_push test [] x e t = and_from (test x) true t refl
 all_push test (y ∷ ys) x e t =
     let s = and_parts (test y) (list_all test ys) e in
     and_from (test y) (list_all test (ys ++ x ∷ [])) s.0 (all_push test ys x s.1 t)
-
-pub none_any : {X : Type 0} (test : X → Bool) (xs : List X) → list_all (λ x. not (test x)) xs ≡ true → list_any test xs ≡ false
-none_any test [] e = refl
-none_any test (x ∷ xs) e =
-    let s = and_parts (not (test x)) (list_all (λ y. not (test y)) xs) e in
-    rw (not-true (test x) s.0) (none_any test xs s.1)

@@ -5,9 +5,9 @@ use Rattle.std.proofs.lemmas.Bool.{and_parts}
 use Rattle.std.proofs.lemmas.List.Folds.{list_all-append, list_any-append}
 use Rattle.las_base.specs.declared.Cell.{Cell}
 use Rattle.las_base.specs.declared.Size.{Size}
-use Rattle.las_base.specs.Cells.{same_cell}
+use Rattle.las_base.specs.Cells.{same_cell, same_size}
 use Rattle.las_base.specs.Jobs.{distinct_cells}
-use Rattle.las_spec.specs.Briefs.{once, same_size, distinct_sizes}
+use Rattle.las_spec.specs.Briefs.{once, distinct_sizes}
 
 pub and_true : (a b : Bool) → a ≡ true → b ≡ true → (a && b) ≡ true
 and_true a b p q = rw (p, q) refl

@@ -1,5 +1,5 @@
 -- Specifications as contracts see them, and what a document gives.
-use Rattle.std.specs.Prelude.{◌≡◌, ℕ, ◌<◌, ◌≤◌, Bool, List, [], ◌∷◌, ◌++◌, map, length, Option, Some, None, Result, Ok, Err, IsTrue, if◌then◌else◌, not, nat_eq, ◌&&◌, true, filter}
+use Rattle.std.specs.Prelude.{◌≡◌, ℕ, ◌<◌, ◌≤◌, Bool, List, [], ◌∷◌, ◌++◌, map, length, Option, Some, None, Result, Ok, Err, IsTrue, if◌then◌else◌, not, ◌&&◌, true, filter}
 use Rattle.std.specs.List.{find, list_all, list_any, filter_map}
 use Rattle.serde_json.specs.Data.{Data}
 use Rattle.json_shape.specs.Arrays.{is_object}
@@ -10,8 +10,8 @@ use Rattle.las_base.specs.declared.Pauli.{Pauli}
 use Rattle.las_base.specs.declared.Cell.{Cell}
 use Rattle.las_base.specs.declared.Size.{Size}
 use Rattle.las_base.specs.declared.Port.{Port}
-use Rattle.las_base.specs.Cells.{holds, same_cell}
-use Rattle.las_base.specs.Jobs.{Task, IsTask, task_of, within_limits}
+use Rattle.las_base.specs.Cells.{holds, same_cell, same_size}
+use Rattle.las_base.specs.Jobs.{Task, IsTask, most_boxes, task_of, within_limits}
 use Rattle.las_spec.specs.declared.refusal.Field.{Field}
 use Rattle.las_spec.specs.declared.refusal.Field.TheVariants.{MaxI, MaxJ, MaxK, Optional, ForbiddenCubes, Ports, Stabilizers}
 use Rattle.las_spec.specs.declared.refusal.SpecRefused.{SpecRefused}
@@ -30,10 +30,6 @@ pub record Brief : Type 0 where
 -- what contracts see of a specification
 abbrev pub brief_of : Task → List Size → Brief
 brief_of task boxes = record { task = task; boxes = boxes }
-
--- the sizes are one
-abbrev pub same_size : Size → Size → Bool
-same_size s t = nat_eq s.i t.i && (nat_eq s.j t.j && nat_eq s.k t.k)
 
 -- the elements once each, in the order in which they stand first, behind those that were seen
 abbrev pub once : {A : Type 0} → (A → A → Bool) → List A → List A → List A
@@ -107,10 +103,10 @@ abbrev pub distinct_sizes : List Size → Bool
 distinct_sizes [] = true
 distinct_sizes (s ∷ ss) = not (list_any (same_size s) ss) && distinct_sizes ss
 
--- what every specification keeps: a job, from 1 to 64 boxes within the limits, once each, and a job in each
+-- what every specification keeps: a job, as many boxes as there may be, within the limits, once each, and a job in each
 pub record IsBrief (b : Brief) : Type 0 where
   pub task : IsTask b.task
-  pub box_count : (0 < length b.boxes) × (length b.boxes ≤ 64)
+  pub box_count : (0 < length b.boxes) × (length b.boxes ≤ most_boxes)
   pub box_sizes : IsTrue (list_all within_limits b.boxes)
   pub distinct_boxes : IsTrue (distinct_sizes b.boxes)
   pub box_jobs : (box : Size) → list_any (same_size box) b.boxes ≡ true → IsTask (job_of b box)

@@ -7,7 +7,7 @@ use Rattle.las_base.specs.declared.Cell.{Cell}
 use Rattle.las_base.specs.declared.Size.{Size}
 use Rattle.las_base.specs.Axes.{same_axis}
 use Rattle.las_base.specs.Cells.{holds, same_cell, low_cell}
-use Rattle.las_base.specs.Jobs.{within_limits}
+use Rattle.las_base.specs.Jobs.{most_boxes, most_flows, most_ports, within_limits}
 use Rattle.las_spec.specs.declared.refusal.SpecRefused.{SpecRefused}
 use Rattle.las_spec.specs.declared.refusal.SpecRefused.TheVariants.{SizeOut, PortCount, PortWay, PortBasis, PortPlace, PortTwice, FlowCount, FlowLength, FlowLetter, ForbiddenPlace, BoxCount, BoxSize, BoxPort}
 use Rattle.las_spec.specs.declared.draft.WrittenPort.{WrittenPort}
@@ -76,7 +76,7 @@ first_bad_box own ports n (box ∷ boxes) = option_or (option_map (λ p. (n, p))
 -- what ports may be refused for, in order
 abbrev pub port_refusals : Size → List WrittenPort → List (Option SpecRefused)
 port_refusals s ports =
-    unless (is_count 32 (length ports)) PortCount
+    unless (is_count most_ports (length ports)) PortCount
     ∷ option_map PortWay (position (λ p. is_none p.direction) ports)
     ∷ option_map PortBasis (position has_bad_basis ports)
     ∷ option_map PortPlace (position (λ p. not (fits_at s p p.place)) ports)
@@ -86,7 +86,7 @@ port_refusals s ports =
 -- what flows may be refused for, in order, beside so many ports
 abbrev pub flow_refusals : ℕ → List (List (Option Pauli)) → List (Option SpecRefused)
 flow_refusals ports words =
-    unless (is_count 32 (length words)) FlowCount
+    unless (is_count most_flows (length words)) FlowCount
     ∷ option_map FlowLength (position (λ word. not (nat_eq (length word) ports)) words)
     ∷ option_map (λ x. FlowLetter x.0 x.1) (first_bad_letter 0 words)
     ∷ []
@@ -103,7 +103,7 @@ job_refusals w =
 -- what its boxes may be refused for, in order
 abbrev pub box_refusals : Written → List (Option SpecRefused)
 box_refusals w =
-    unless (is_count 64 (length w.boxes)) BoxCount
+    unless (is_count most_boxes (length w.boxes)) BoxCount
     ∷ option_map BoxSize (position (λ box. not (within_limits box)) w.boxes)
     ∷ option_map (λ x. BoxPort x.0 x.1) (first_bad_box w.size w.ports 0 w.boxes)
     ∷ []

@@ -7,10 +7,10 @@ ghost use Rattle.serde_json.specs.View.{view};
 ghost use Rattle.serde_json.specs.Find.{get};
 ghost use Rattle.json_shape.specs.Arrays.{array_items, each, is_object, objects};
 ghost use Rattle.json_shape.specs.Numbers.{triple};
-ghost use Rattle.las_spec.specs.declared.refusal.Field.TheVariants.{Optional};
+ghost use Rattle.las_spec.specs.declared.refusal.Field.TheVariants.{MaxI, MaxJ, MaxK, Optional};
 ghost use Rattle.las_spec.specs.declared.refusal.SpecRefused.TheVariants.{Memory, Shape};
 ghost use Rattle.las_spec.specs.Written.{written_as};
-ghost use Rattle.las_spec.specs.Documents.{word_in, cell_of, size_of, port_in, ports_in, words_in, triples, cubes_in, forbidden_in, boxes_in, field_name, has_shape, missing_in, misshapen_in, written_in};
+ghost use Rattle.las_spec.specs.Documents.{word_in, cell_of, size_of, port_in, ports_in, words_in, triples, cubes_in, forbidden_in, boxes_in, field_name, has_shape, missing_in, size_in, misshapen_in, written_in};
 ghost use Rattle.las_spec.specs.Briefs.{job_misshapen_in, job_written_in};
 
 use crate::draft::{Draft, WrittenPort};
@@ -200,11 +200,12 @@ pub(crate) fn missing(value: &Value) -> Option<Field>
     first_absent(value, &NEEDED)
 }
 
-/// What the value writes, or the first member that has not its shape.
-#[tactic(auto, unfolding(crate::specs::Documents::written_in))]
-pub(crate) fn read_written(alloc: Global, value: &Value) -> Result<Draft, SpecRefused>
-    ensures ok { IfOk result (λ draft. (misshapen_in (view value.now) ≡ None) × (written_in (view value.now) ≡ Some (written_as draft))) }
-    ensures err { IfErr result (λ e. e ≢ Memory → option_map Shape (misshapen_in (view value.now)) ≡ Some e) }
+// The size that the value writes, or the first of its sides that has not its shape.
+fn read_size(value: &Value) -> Result<Size, SpecRefused>
+    ensures size { IfOk result (λ size. size_in (view value.now) ≡ Some size) }
+    ensures shapes { IfOk result (λ _. (has_shape (view value.now) MaxI ≡ true) × (has_shape (view value.now) MaxJ ≡ true) × (has_shape (view value.now) MaxK ≡ true)) }
+    ensures misshapen { IfErr result (λ e. option_map Shape (misshapen_in (view value.now)) ≡ Some e) }
+    ensures job_misshapen { IfErr result (λ e. option_map Shape (job_misshapen_in (view value.now)) ≡ Some e) }
 {
     let Some(i) = whole_member(value, Field::MaxI.name()) else {
         return Err(SpecRefused::Shape(Field::MaxI));
@@ -215,7 +216,19 @@ pub(crate) fn read_written(alloc: Global, value: &Value) -> Result<Draft, SpecRe
     let Some(k) = whole_member(value, Field::MaxK.name()) else {
         return Err(SpecRefused::Shape(Field::MaxK));
     };
-    let size = Size { i, j, k };
+    Ok(Size { i, j, k })
+}
+
+/// What the value writes, or the first member that has not its shape.
+#[tactic(auto, unfolding(crate::specs::Documents::written_in))]
+pub(crate) fn read_written(alloc: Global, value: &Value) -> Result<Draft, SpecRefused>
+    ensures ok { IfOk result (λ draft. (misshapen_in (view value.now) ≡ None) × (written_in (view value.now) ≡ Some (written_as draft))) }
+    ensures err { IfErr result (λ e. e ≢ Memory → option_map Shape (misshapen_in (view value.now)) ≡ Some e) }
+{
+    let size = match read_size(value) {
+        Ok(size) => size,
+        Err(refusal) => return Err(refusal),
+    };
     let Some(ports) = read_ports(alloc, value)? else {
         return Err(SpecRefused::Shape(Field::Ports));
     };
@@ -246,14 +259,9 @@ pub(crate) fn read_job_written(alloc: Global, value: &Value) -> Result<Draft, Sp
     ensures ok { IfOk result (λ draft. (job_misshapen_in (view value.now) ≡ None) × (job_written_in (view value.now) ≡ Some (written_as draft))) }
     ensures err { IfErr result (λ e. e ≢ Memory → option_map Shape (job_misshapen_in (view value.now)) ≡ Some e) }
 {
-    let Some(i) = whole_member(value, Field::MaxI.name()) else {
-        return Err(SpecRefused::Shape(Field::MaxI));
-    };
-    let Some(j) = whole_member(value, Field::MaxJ.name()) else {
-        return Err(SpecRefused::Shape(Field::MaxJ));
-    };
-    let Some(k) = whole_member(value, Field::MaxK.name()) else {
-        return Err(SpecRefused::Shape(Field::MaxK));
+    let size = match read_size(value) {
+        Ok(size) => size,
+        Err(refusal) => return Err(refusal),
     };
     if !has_options(value) {
         return Err(SpecRefused::Shape(Field::Optional));
@@ -268,7 +276,7 @@ pub(crate) fn read_job_written(alloc: Global, value: &Value) -> Result<Draft, Sp
         return Err(SpecRefused::Shape(Field::Stabilizers));
     };
     Ok(Draft {
-        size: Size { i, j, k },
+        size,
         ports,
         words,
         forbidden,

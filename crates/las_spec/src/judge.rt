@@ -9,7 +9,7 @@ ghost use Rattle.las_spec.specs.declared.refusal.SpecRefused.TheVariants.{SizeOu
 
 use crate::SpecRefused;
 use crate::draft::{Draft, WrittenPort};
-use las_base::{Axis, Cell, Pauli, Port, Size};
+use las_base::{Axis, Cell, MOST_BOXES, MOST_FLOWS, MOST_PORTS, Pauli, Port, Size};
 
 fn is_count(most: usize, n: usize) -> bool
     ensures { result ≡ is_count most n }
@@ -179,7 +179,7 @@ fn first_bad_box(own: Size, ports: &[WrittenPort], boxes: &[Size]) -> Option<(us
 fn port_refusal(size: Size, ports: &[WrittenPort]) -> Option<SpecRefused>
     ensures { result ≡ first_of (port_refusals size ports.now) }
 {
-    if !is_count(32, ports.len()) {
+    if !is_count(MOST_PORTS, ports.len()) {
         return Some(SpecRefused::PortCount);
     }
     if let Some(n) = first_without_way(ports) {
@@ -200,7 +200,7 @@ fn port_refusal(size: Size, ports: &[WrittenPort]) -> Option<SpecRefused>
 fn flow_refusal(ports: &[WrittenPort], words: &[Vec<Option<Pauli>>]) -> Option<SpecRefused>
     ensures { result ≡ first_of (flow_refusals (length ports.now) (map (λ v. v.items) words.now)) }
 {
-    if !is_count(32, words.len()) {
+    if !is_count(MOST_FLOWS, words.len()) {
         return Some(SpecRefused::FlowCount);
     }
     if let Some(n) = first_wrong_length(ports.len(), words) {
@@ -240,7 +240,7 @@ pub(crate) fn refusal(draft: &Draft) -> Option<SpecRefused>
     if let Some(refusal) = job_refusal(draft) {
         return Some(refusal);
     }
-    if !is_count(64, draft.boxes.len()) {
+    if !is_count(MOST_BOXES, draft.boxes.len()) {
         return Some(SpecRefused::BoxCount);
     }
     if let Some(n) = first_out_of_limits(&draft.boxes) {

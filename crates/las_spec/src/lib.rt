@@ -8,22 +8,23 @@ mod document;
 mod draft;
 mod flow_word;
 mod judge;
-mod laws;
+pub mod laws;
 mod letters;
 mod make;
 mod read;
 mod refusal;
+mod sameness;
 mod spec;
 mod text;
 
 pub use boxes::{job, sweep_order};
 pub use flow_word::FlowWord;
 pub use las_base::Port;
-pub use laws::{by_volume_is_order, job_is_read_back, text_is_read_back};
 pub use letters::{axis_text, direction_text};
 pub use make::{make_job, make_spec};
 pub use read::{read_job, read_spec};
 pub use refusal::{Field, SpecRefused, refusal_text};
+pub use sameness::same_job;
 pub use spec::{Job, Rules, Spec};
 pub use text::{options_value, port_values, spec_text, word_values};
 

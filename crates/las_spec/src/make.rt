@@ -1,10 +1,10 @@
 // Specifications and jobs, made of their parts or refused.
 ghost use Rattle.std.specs.Prelude.{◌≡◌, ◌≢◌, map, None, Some, IfOk, IfErr, Ok, Err, []};
 ghost use Rattle.std.specs.List.{filter_map};
-ghost use Rattle.las_base.specs.Cells.{same_cell};
+ghost use Rattle.las_base.specs.Cells.{same_cell, same_size};
 ghost use Rattle.las_spec.specs.Written.{port_written, written_as, written_by};
 ghost use Rattle.las_spec.specs.Refusals.{job_refusal, refusal};
-ghost use Rattle.las_spec.specs.Briefs.{same_size, once, port_of, letters_of, task_written, brief_written, spec_given, job_given};
+ghost use Rattle.las_spec.specs.Briefs.{once, port_of, letters_of, task_written, brief_written, spec_given, job_given};
 ghost use Rattle.las_spec.specs.declared.refusal.SpecRefused.TheVariants.{Memory};
 
 use crate::draft::{Draft, WrittenPort};

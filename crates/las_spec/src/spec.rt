@@ -173,7 +173,7 @@ impl Spec {
         Rules::One
     }
 
-    /// How many boxes it has: 1 to 64.
+    /// How many boxes it has: 1 to `MOST_BOXES`.
     pub fn box_count(&self) -> usize
         ensures { result ≡ length self.now.boxes }
     {

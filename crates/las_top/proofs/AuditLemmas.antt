@@ -13,15 +13,6 @@ use Rattle.las_top.specs.Audit.{or_later, first_unserved}
 -- ---- whether some element passes
 
 module _ {X : Type 0} (test : X → Bool) where
-  pub any_at : (xs : List X) (n : ℕ) (x : X) → slice_get xs n ≡ Some x → test x ≡ true → list_any test xs ≡ true
-  any_at [] n x at t = absurd (cc)
-  any_at (y ∷ ys) zero x at t = let same : y ≡ x = cc in rw (same, t) refl
-  any_at (y ∷ ys) (suc n) x at t = ap (λ b. test y || b) (any_at ys n x at t) ∙ or_true (test y)
-    where
-      or_true : (b : Bool) → (b || true) ≡ true
-      or_true true = refl
-      or_true false = refl
-
   none_of : (x : X) (xs : List X) → (test x || list_any test xs) ≡ false → (test x ≡ false) × (list_any test xs ≡ false)
   none_of x xs e = go (test x) refl e
     where

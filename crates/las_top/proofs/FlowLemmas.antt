@@ -11,8 +11,9 @@ use Rattle.grid_box.specs.Drawings.{Drawing, IsDrawing}
 use Rattle.grid_box.specs.PipeRules.{IsValid}
 use Rattle.grid_box.specs.Sheets.{HasSheets}
 use Rattle.las_spec.specs.Boxes.{sweep_order}
-use Rattle.las_spec.specs.Briefs.{Brief, IsBrief, job_of, same_size}
-use Rattle.las_spec.proofs.Distinct.{same_size-refl}
+use Rattle.las_base.specs.Cells.{same_size}
+use Rattle.las_spec.specs.Briefs.{Brief, IsBrief, job_of}
+use Rattle.las_base.proofs.Same.{any_at, same_size-refl}
 use Rattle.zx_graph.specs.Graphs.{zx_of}
 use Rattle.zx_flow.specs.Flows.{HasFlow}
 use Rattle.sheet_flow.proofs.FlowSheets.{sheets_are_flows}
@@ -25,7 +26,6 @@ use Rattle.box_sweep.specs.declared.ending.Ending.{Ending}
 use Rattle.box_sweep.proofs.OrderLemmas.{number_at}
 use Rattle.cnf_base.specs.Logs.{LogStep}
 use Rattle.las_top.specs.Headline.{NoneSolves, Solves}
-use Rattle.las_top.proofs.AuditLemmas.{any_at}
 
 -- ---- one diagram
 

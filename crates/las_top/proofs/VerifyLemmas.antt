@@ -4,8 +4,9 @@ use Rattle.las_base.specs.declared.Size.{Size}
 use Rattle.las_base.specs.Jobs.{Task, IsTask}
 use Rattle.las_io.specs.Shelves.{File, FilesStay, file_of}
 use Rattle.grid_box.specs.Drawings.{Drawing}
-use Rattle.las_spec.specs.Briefs.{Brief, same_size}
-use Rattle.las_spec.proofs.Distinct.{same_size-refl}
+use Rattle.las_base.specs.Cells.{same_size}
+use Rattle.las_spec.specs.Briefs.{Brief}
+use Rattle.las_base.proofs.Same.{any_at, same_size-refl}
 use Rattle.cnf_base.specs.Literals.{Cnf, IsRefuted}
 use Rattle.cnf_base.specs.Logs.{LogStep, Tail, LogEnd, Malformed, Limit}
 use Rattle.cnf_encode.specs.Clauses.{clause_table}
@@ -18,7 +19,6 @@ use Rattle.las_top.proofs.FlowLemmas.{none_in_flows}
 use Rattle.las_top.specs.Answers.{Answer}
 use Rattle.las_top.specs.Runs.{AnswersBoxLog, AnswersListed, AnswersLogFile}
 use Rattle.las_top.specs.Verify.{AnswersSteps, lists_box}
-use Rattle.las_top.proofs.AuditLemmas.{any_at}
 
 -- ---- the log of a file
 

@@ -8,52 +8,18 @@ use Rattle.las_base.specs.declared.Pauli.{Pauli}
 use Rattle.las_base.specs.declared.Cell.{Cell}
 use Rattle.las_base.specs.declared.Port.{Port}
 use Rattle.las_base.specs.Axes.{same_axis}
-use Rattle.las_base.specs.Cells.{same_cell}
-use Rattle.las_base.specs.Jobs.{Task}
+use Rattle.las_base.specs.Cells.{same_cell, same_size}
+use Rattle.las_base.specs.Jobs.{Task, same_job}
 use Rattle.grid_box.specs.declared.Broken.{Broken}
 use Rattle.grid_box.specs.Breaches.{breach}
 use Rattle.grid_box.specs.Sheets.{sheet_breach}
 use Rattle.grid_box.specs.Surfaces.{Surfaces, sheets_of}
 use Rattle.grid_box.specs.Drawings.{Drawing}
-use Rattle.las_spec.specs.Briefs.{Brief, same_size, job_of}
+use Rattle.las_spec.specs.Briefs.{Brief, job_of}
 use Rattle.lasre_codec.specs.declared.refusal.LasreRefused.{LasreRefused}
 use Rattle.lasre_codec.specs.Documents.{Lasre, lasre_of}
 use Rattle.las_top.specs.Answers.{Answer, yes_with, no_with}
 use Rattle.las_top.specs.Check.{broken_line, refused_lasre}
-
--- ---- one job
-
--- the ways are one
-abbrev pub same_way : Way → Way → Bool
-same_way Plus Plus = true
-same_way Minus Minus = true
-same_way _ _ = false
-
--- the Paulis are one
-abbrev pub same_pauli : Pauli → Pauli → Bool
-same_pauli Pauli.One Pauli.One = true
-same_pauli Pauli.X Pauli.X = true
-same_pauli Pauli.Y Pauli.Y = true
-same_pauli Pauli.Z Pauli.Z = true
-same_pauli _ _ = false
-
--- the ports are one
-abbrev pub same_port : Port → Port → Bool
-same_port p q = same_cell p.place q.place && (same_axis p.axis q.axis && (same_way p.way q.way && same_axis p.z_axis q.z_axis))
-
--- the lists have as many elements, and each is the one of the other list
-abbrev pub same_list : {X : Type 0} → (X → X → Bool) → List X → List X → Bool
-same_list same [] [] = true
-same_list same (x ∷ xs) (y ∷ ys) = same x y && same_list same xs ys
-same_list same _ _ = false
-
--- each list has the cells of the other, in whatever order
-abbrev pub same_cells : List Cell → List Cell → Bool
-same_cells cs ds = list_all (λ c. list_any (same_cell c) ds) cs && list_all (λ d. list_any (same_cell d) cs) ds
-
--- the jobs are one, where their forbidden cells are taken as sets
-abbrev pub same_job : Task → Task → Bool
-same_job s t = same_size s.size t.size && (same_list same_port s.ports t.ports && (same_list (same_list same_pauli) s.flows t.flows && same_cells s.forbidden t.forbidden))
 
 -- the job is that of a listed box
 abbrev pub is_listed : Brief → Task → Bool

@@ -3,7 +3,8 @@ use Rattle.std.specs.Prelude.{◌≡◌, ℕ, Bool, List, ◌++◌, codes, Optio
 use Rattle.std.specs.List.{list_any}
 use Rattle.std.specs.Fmt.{decimal}
 use Rattle.las_base.specs.declared.Size.{Size}
-use Rattle.las_spec.specs.Briefs.{Brief, same_size}
+use Rattle.las_base.specs.Cells.{same_size}
+use Rattle.las_spec.specs.Briefs.{Brief}
 use Rattle.cnf_base.specs.Literals.{Cnf, IsRefuted}
 use Rattle.cnf_base.specs.Logs.{LogStep, Tail, LogEnd, Malformed, Limit, first_fault}
 use Rattle.clause_log.specs.Steps.{Ahead, Follows, tail_of}

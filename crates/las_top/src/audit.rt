@@ -1,13 +1,11 @@
 // The command `audit`: whether a document solves one of the listed boxes.
 ghost use Rattle.std.specs.Prelude.{◌≡◌, ◌↔◌, None, true, IfOk, IsOkAnd, IsErrOf, IsTrue};
-ghost use Rattle.std.specs.List.{list_all, list_any};
-ghost use Rattle.las_base.specs.Cells.{same_cell};
 ghost use Rattle.las_io.specs.Counts.{Rose};
 ghost use Rattle.las_io.specs.Names.{is_lawful_name};
 ghost use Rattle.las_io.specs.Shelves.{FilesStay};
 ghost use Rattle.las_spec.specs.Briefs.{spec_of};
 ghost use Rattle.lasre_codec.specs.Documents.{IsLasre, lasre_as};
-ghost use Rattle.las_top.specs.Audit.{same_port, same_list, same_cells, same_job, same_pauli, is_listed, first_unserved, audit_of, audit_answer};
+ghost use Rattle.las_top.specs.Audit.{is_listed, first_unserved, audit_of, audit_answer};
 ghost use Rattle.las_top.specs.Findings.{answer_by};
 ghost use Rattle.las_top.specs.Headline.{HasSolution};
 ghost use Rattle.las_top.specs.Shown.{ShowsListed};
@@ -15,91 +13,14 @@ ghost use Rattle.las_top.specs.declared.run.Status.TheVariants.{Good};
 ghost use Rattle.las_top.specs.Runs.{AnswersFile, AnswersSpec, is_any};
 
 use crate::check::first_breach;
-use crate::finding::{Finding, Refusal, Unfound};
+use crate::finding::{FindRefused, Finding, Refusal};
 use crate::run::MOST_BYTES;
 use grid_box::Broken;
-use las_base::{Cell, Pauli, Port};
 use las_io::{FetchRefused, Shelf, fetch_all};
-use las_spec::{FlowWord, Job, Spec, SpecRefused, job, read_spec};
+use las_spec::{Job, Spec, SpecRefused, job, read_spec, same_job};
 use lasre_codec::{Lasre, LasreRefused, read_lasre};
 use std::alloc::{AllocError, Global};
 use surface_rules::first_bad_sheet;
-
-fn same_port(port: Port, other: Port) -> bool
-    ensures { result ≡ same_port port other }
-{
-    port == other
-}
-
-fn same_pauli(letter: Pauli, other: Pauli) -> bool
-    ensures { result ≡ same_pauli letter other }
-{
-    letter == other
-}
-
-fn same_ports(ports: &[Port], others: &[Port]) -> bool
-    ensures { result ≡ same_list same_port ports.now others.now }
-{
-    match (ports, others) {
-        ([], []) => true,
-        ([port, ports @ ..], [other, others @ ..]) => {
-            same_port(*port, *other) && same_ports(ports, others)
-        }
-        _ => false,
-    }
-}
-
-fn same_letters(letters: &[Pauli], others: &[Pauli]) -> bool
-    ensures { result ≡ same_list same_pauli letters.now others.now }
-{
-    match (letters, others) {
-        ([], []) => true,
-        ([letter, letters @ ..], [other, others @ ..]) => {
-            same_pauli(*letter, *other) && same_letters(letters, others)
-        }
-        _ => false,
-    }
-}
-
-fn same_flows(flows: &[FlowWord], others: &[FlowWord]) -> bool
-    ensures { result ≡ same_list (same_list same_pauli) flows.now others.now }
-{
-    match (flows, others) {
-        ([], []) => true,
-        ([flow, flows @ ..], [other, others @ ..]) => {
-            same_letters(flow.letters(), other.letters()) && same_flows(flows, others)
-        }
-        _ => false,
-    }
-}
-
-fn has_cell(cells: &[Cell], cell: Cell) -> bool
-    ensures { result ≡ list_any (same_cell cell) cells.now }
-{
-    cells.iter().any(|other| cell == *other)
-}
-
-// Whether the second list has each cell of the first.
-fn has_all(cells: &[Cell], others: &[Cell]) -> bool
-    ensures { result ≡ list_all (λ c. list_any (same_cell c) others.now) cells.now }
-{
-    cells.iter().all(|cell| has_cell(others, *cell))
-}
-
-fn same_cells(cells: &[Cell], others: &[Cell]) -> bool
-    ensures { result ≡ same_cells cells.now others.now }
-{
-    has_all(cells, others) && has_all(others, cells)
-}
-
-fn same_job(job: &Job, other: &Job) -> bool
-    ensures { result ≡ same_job job.now other.now }
-{
-    job.size() == other.size()
-        && same_ports(job.ports(), other.ports())
-        && same_flows(job.flows(), other.flows())
-        && same_cells(job.forbidden(), other.forbidden())
-}
 
 // Whether the job is that of a listed box.
 fn is_listed(alloc: Global, spec: &Spec, other: &Job) -> Result<bool, AllocError>
@@ -162,12 +83,12 @@ fn audit_file<H: Shelf>(
     spec: &Spec,
     name: &str,
     shelf: &mut H,
-) -> Result<Finding, Unfound>
+) -> Result<Finding, FindRefused>
     requires lawful { IsTrue (is_lawful_name name.now) }
     requires none_begun { H.begun_name shelf.old ≡ None }
     ensures found { IfOk result (λ f. AnswersFile H.files H.finds H.given spec.now name.now shelf.old shelf.new (answer_by f)) }
-    ensures shelf_fault { IsErrOf result Unfound.ShelfFault → Rose (H.faults shelf.old) (H.faults shelf.new) }
-    ensures no_read_fault { IsErrOf result Unfound.ReadFault → ⊥ }
+    ensures shelf_fault { IsErrOf result FindRefused.ShelfFault → Rose (H.faults shelf.old) (H.faults shelf.new) }
+    ensures no_read_fault { IsErrOf result FindRefused.ReadFault → ⊥ }
     ensures files { FilesStay (H.files shelf.old) (H.files shelf.new) }
     ensures begun { H.begun_name shelf.new ≡ None }
 {
@@ -175,8 +96,8 @@ fn audit_file<H: Shelf>(
         Ok(Some(bytes)) => Ok(audit_bytes(alloc, spec, &bytes)?),
         Ok(None) => Ok(Finding::Refused(Refusal::NoFile(String::from_str(alloc, name)?))),
         Err(FetchRefused::TooLong) => Ok(Finding::Refused(Refusal::LasreTooLong)),
-        Err(FetchRefused::ShelfFault) => Err(Unfound::ShelfFault),
-        Err(FetchRefused::Memory) => Err(Unfound::Memory),
+        Err(FetchRefused::ShelfFault) => Err(FindRefused::ShelfFault),
+        Err(FetchRefused::Memory) => Err(FindRefused::Memory),
     }
 }
 
@@ -186,19 +107,19 @@ pub(crate) fn audit<H: Shelf>(
     bytes: &[u8],
     name: &str,
     shelf: &mut H,
-) -> Result<Finding, Unfound>
+) -> Result<Finding, FindRefused>
     requires lawful { IsTrue (is_lawful_name name.now) }
     requires none_begun { H.begun_name shelf.old ≡ None }
     ensures found { IfOk result (λ f. AnswersSpec H.files H.finds H.given name.now (spec_of bytes.now) shelf.old shelf.new (answer_by f)) }
-    ensures shelf_fault { IsErrOf result Unfound.ShelfFault → Rose (H.faults shelf.old) (H.faults shelf.new) }
-    ensures asked { IsErrOf result Unfound.ShelfFault → IsOkAnd (spec_of bytes.now) (λ b. is_any b ≡ true) }
-    ensures no_read_fault { IsErrOf result Unfound.ReadFault → ⊥ }
+    ensures shelf_fault { IsErrOf result FindRefused.ShelfFault → Rose (H.faults shelf.old) (H.faults shelf.new) }
+    ensures asked { IsErrOf result FindRefused.ShelfFault → IsOkAnd (spec_of bytes.now) (λ b. is_any b ≡ true) }
+    ensures no_read_fault { IsErrOf result FindRefused.ReadFault → ⊥ }
     ensures files { FilesStay (H.files shelf.old) (H.files shelf.new) }
     ensures begun { H.begun_name shelf.new ≡ None }
 {
     match read_spec(alloc, bytes) {
         Ok(spec) => audit_file(alloc, &spec, name, shelf),
-        Err(SpecRefused::Memory) => Err(Unfound::Memory),
+        Err(SpecRefused::Memory) => Err(FindRefused::Memory),
         Err(refusal) => Ok(Finding::Refused(Refusal::Spec(refusal))),
     }
 }

@@ -49,20 +49,20 @@ pub(crate) enum Refusal {
 
 /// Why nothing is found.
 #[derive(Clone, Copy, PartialEq, Eq, Debug)]
-pub(crate) enum Unfound {
+pub(crate) enum FindRefused {
     ReadFault,
     ShelfFault,
     Memory,
 }
 
-impl From<AllocError> for Unfound {
+impl From<AllocError> for FindRefused {
     ghost use Rattle.std.specs.Prelude.{◌≡◌};
-    ghost use Rattle.las_top.specs.declared.finding.Unfound.TheVariants.{Memory};
+    ghost use Rattle.las_top.specs.declared.finding.FindRefused.TheVariants.{Memory};
 
     ghost from_gives = { λ _ e. e ≡ Memory };
 
     fn from(_: AllocError) -> Self {
-        Unfound::Memory
+        FindRefused::Memory
     }
 }
 

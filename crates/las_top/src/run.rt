@@ -12,7 +12,7 @@ ghost use Rattle.las_top.specs.Runs.{AnswersAsked, AnswersCommand, GivesSpec, as
 
 use crate::audit::audit;
 use crate::check::check;
-use crate::finding::{Finding, Refusal, Unfound, tell};
+use crate::finding::{FindRefused, Finding, Refusal, tell};
 use crate::spec::spec;
 use crate::sweep::{bench, sweep_source};
 use crate::verify::verify;
@@ -85,14 +85,14 @@ fn answer<H: Shelf>(
     command: Asking,
     bytes: &[u8],
     shelf: &mut H,
-) -> Result<Finding, Unfound>
+) -> Result<Finding, FindRefused>
     requires none_begun { H.begun_name shelf.old ≡ None }
     requires lawful { IsLawful (command_as command) }
     ensures found { IfOk result (λ f. AnswersAsked H.files H.finds H.given Solves (command_as command.entry) shelf.old shelf.new bytes.now (answer_by f)) }
-    ensures shelf_fault { IsErrOf result Unfound.ShelfFault → Rose (H.faults shelf.old) (H.faults shelf.new) }
-    ensures asked { IsErrOf result Unfound.ShelfFault → IsOkAnd (spec_of bytes.now) (λ b. sends (command_as command.entry) b ≡ true) }
-    ensures unasked { asks_file (command_as command.entry) ≡ false → (shelf.new ≡ shelf.old) × (IsErrOf result Unfound.ShelfFault → ⊥) }
-    ensures no_read_fault { IsErrOf result Unfound.ReadFault → ⊥ }
+    ensures shelf_fault { IsErrOf result FindRefused.ShelfFault → Rose (H.faults shelf.old) (H.faults shelf.new) }
+    ensures asked { IsErrOf result FindRefused.ShelfFault → IsOkAnd (spec_of bytes.now) (λ b. sends (command_as command.entry) b ≡ true) }
+    ensures unasked { asks_file (command_as command.entry) ≡ false → (shelf.new ≡ shelf.old) × (IsErrOf result FindRefused.ShelfFault → ⊥) }
+    ensures no_read_fault { IsErrOf result FindRefused.ReadFault → ⊥ }
     ensures files { FilesStay (H.files shelf.old) (H.files shelf.new) }
     ensures begun { H.begun_name shelf.new ≡ None }
 {
@@ -111,23 +111,23 @@ fn find<S: Source, H: Shelf>(
     command: Asking,
     src: &mut S,
     shelf: &mut H,
-) -> Result<Finding, Unfound>
+) -> Result<Finding, FindRefused>
     requires none_begun { H.begun_name shelf.old ≡ None }
     requires lawful { IsLawful (command_as command) }
     ensures found { IfOk result (λ f. AnswersCommand S.left S.given H.files H.finds H.given Solves (command_as command.entry)
         src.old src.new shelf.old shelf.new (answer_by f)) }
-    ensures read_fault { IsErrOf result Unfound.ReadFault → Rose (S.faults src.old) (S.faults src.new) × (shelf.new ≡ shelf.old) }
-    ensures shelf_fault { IsErrOf result Unfound.ShelfFault → Rose (H.faults shelf.old) (H.faults shelf.new) }
-    ensures asked { IsErrOf result Unfound.ShelfFault → GivesSpec S.left S.given (sends (command_as command.entry)) src.old src.new }
-    ensures unasked { asks_file (command_as command.entry) ≡ false → (shelf.new ≡ shelf.old) × (IsErrOf result Unfound.ShelfFault → ⊥) }
+    ensures read_fault { IsErrOf result FindRefused.ReadFault → Rose (S.faults src.old) (S.faults src.new) × (shelf.new ≡ shelf.old) }
+    ensures shelf_fault { IsErrOf result FindRefused.ShelfFault → Rose (H.faults shelf.old) (H.faults shelf.new) }
+    ensures asked { IsErrOf result FindRefused.ShelfFault → GivesSpec S.left S.given (sends (command_as command.entry)) src.old src.new }
+    ensures unasked { asks_file (command_as command.entry) ≡ false → (shelf.new ≡ shelf.old) × (IsErrOf result FindRefused.ShelfFault → ⊥) }
     ensures files { FilesStay (H.files shelf.old) (H.files shelf.new) }
     ensures begun { H.begun_name shelf.new ≡ None }
 {
     match read_all(alloc, src, MOST_BYTES) {
         Ok(bytes) => answer(alloc, command, &bytes, shelf),
         Err(ReadRefused::TooLong) => Ok(Finding::Refused(Refusal::TooLong)),
-        Err(ReadRefused::ReadFault) => Err(Unfound::ReadFault),
-        Err(ReadRefused::Memory) => Err(Unfound::Memory),
+        Err(ReadRefused::ReadFault) => Err(FindRefused::ReadFault),
+        Err(ReadRefused::Memory) => Err(FindRefused::Memory),
     }
 }
 
@@ -154,9 +154,9 @@ fn find_and_tell<S: Source, K: Sink, E: Sink, H: Shelf>(
 {
     match find(alloc, command, src, shelf) {
         Ok(finding) => tell(alloc, finding, out, err),
-        Err(Unfound::ReadFault) => Status::ReadFault,
-        Err(Unfound::ShelfFault) => Status::ShelfFault,
-        Err(Unfound::Memory) => Status::Memory,
+        Err(FindRefused::ReadFault) => Status::ReadFault,
+        Err(FindRefused::ShelfFault) => Status::ShelfFault,
+        Err(FindRefused::Memory) => Status::Memory,
     }
 }
 

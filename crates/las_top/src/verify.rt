@@ -3,7 +3,8 @@ ghost use Rattle.std.specs.Prelude.{◌≡◌, None, Some, false, true, IfOk, Is
 ghost use Rattle.las_io.specs.Counts.{Rose};
 ghost use Rattle.las_io.specs.Names.{is_lawful_name};
 ghost use Rattle.las_io.specs.Shelves.{FilesStay};
-ghost use Rattle.las_spec.specs.Briefs.{job_of, same_size, spec_of};
+ghost use Rattle.las_base.specs.Cells.{same_size};
+ghost use Rattle.las_spec.specs.Briefs.{job_of, spec_of};
 ghost use Rattle.cnf_base.specs.Literals.{IsRefuted};
 ghost use Rattle.clause_log.specs.Pieces.{log_told};
 ghost use Rattle.las_top.specs.Headline.{Solves};
@@ -11,7 +12,7 @@ ghost use Rattle.las_top.specs.Findings.{answer_by};
 ghost use Rattle.las_top.specs.Runs.{AnswersBoxLog, AnswersListed, AnswersLogFile, AnswersVerify};
 ghost use Rattle.las_top.specs.Verify.{AnswersSteps, lists_box};
 
-use crate::finding::{Finding, Refusal, Unfound};
+use crate::finding::{FindRefused, Finding, Refusal};
 use box_sweep::{clauses_of, log_name};
 use clause_log::{FoundLog, StepReader, StepRefused, Steps, find_log};
 use cnf_base::Formula;
@@ -22,19 +23,19 @@ use log_check::{Check, CheckRefused, check};
 use std::alloc::Global;
 
 // What is found of the steps of a log, for a formula.
-fn judge<T: Steps>(alloc: Global, formula: &Formula, steps: &mut T) -> Result<Finding, Unfound>
+fn judge<T: Steps>(alloc: Global, formula: &Formula, steps: &mut T) -> Result<Finding, FindRefused>
     requires { T.failed steps.old ≡ false }
     ensures found { IfOk result (λ f. AnswersSteps formula.now (T.ahead steps.old) (answer_by f)) }
-    ensures shelf_fault { IsErrOf result Unfound.ShelfFault → Rose (T.faults steps.old) (T.faults steps.new) }
-    ensures no_read_fault { IsErrOf result Unfound.ReadFault → ⊥ }
+    ensures shelf_fault { IsErrOf result FindRefused.ShelfFault → Rose (T.faults steps.old) (T.faults steps.new) }
+    ensures no_read_fault { IsErrOf result FindRefused.ReadFault → ⊥ }
     ensures goes_on { T.goes_on_from steps.new steps.old }
 {
     match check(alloc, formula, steps) {
         Ok(Check::Accepted) => Ok(Finding::Accepted),
         Ok(Check::Rejected { line, why }) => Ok(Finding::Rejected(line, why)),
         Err(CheckRefused::TooLong) => Ok(Finding::Refused(Refusal::LogTooLong)),
-        Err(CheckRefused::ShelfFault) => Err(Unfound::ShelfFault),
-        Err(CheckRefused::Memory) => Err(Unfound::Memory),
+        Err(CheckRefused::ShelfFault) => Err(FindRefused::ShelfFault),
+        Err(CheckRefused::Memory) => Err(FindRefused::Memory),
     }
 }
 
@@ -44,11 +45,11 @@ fn judge_log<H: Shelf>(
     formula: &Formula,
     log: FoundLog,
     shelf: &mut H,
-) -> Result<Finding, Unfound>
+) -> Result<Finding, FindRefused>
     requires none_begun { H.begun_name shelf.old ≡ None }
     ensures found { IfOk result (λ f. AnswersSteps formula.now (log_told log (H.files shelf.old)) (answer_by f)) }
-    ensures shelf_fault { IsErrOf result Unfound.ShelfFault → Rose (H.faults shelf.old) (H.faults shelf.new) }
-    ensures no_read_fault { IsErrOf result Unfound.ReadFault → ⊥ }
+    ensures shelf_fault { IsErrOf result FindRefused.ShelfFault → Rose (H.faults shelf.old) (H.faults shelf.new) }
+    ensures no_read_fault { IsErrOf result FindRefused.ReadFault → ⊥ }
     ensures files { FilesStay (H.files shelf.old) (H.files shelf.new) }
     ensures begun { H.begun_name shelf.new ≡ None }
 {
@@ -64,30 +65,30 @@ fn judge_file<H: Shelf>(
     formula: &Formula,
     name: &str,
     shelf: &mut H,
-) -> Result<Finding, Unfound>
+) -> Result<Finding, FindRefused>
     requires lawful { IsTrue (is_lawful_name name.now) }
     requires none_begun { H.begun_name shelf.old ≡ None }
     ensures found { IfOk result (λ f. AnswersLogFile H.files H.finds (IsRefuted formula.now.clauses) formula.now name.now shelf.old (answer_by f)) }
-    ensures shelf_fault { IsErrOf result Unfound.ShelfFault → Rose (H.faults shelf.old) (H.faults shelf.new) }
-    ensures no_read_fault { IsErrOf result Unfound.ReadFault → ⊥ }
+    ensures shelf_fault { IsErrOf result FindRefused.ShelfFault → Rose (H.faults shelf.old) (H.faults shelf.new) }
+    ensures no_read_fault { IsErrOf result FindRefused.ReadFault → ⊥ }
     ensures files { FilesStay (H.files shelf.old) (H.files shelf.new) }
     ensures begun { H.begun_name shelf.new ≡ None }
 {
     match find_log(alloc, shelf, name) {
         Ok(Some(log)) => judge_log(alloc, formula, log, shelf),
         Ok(None) => Ok(Finding::Refused(Refusal::NoFile(String::from_str(alloc, name)?))),
-        Err(StepRefused::ShelfFault) => Err(Unfound::ShelfFault),
-        Err(StepRefused::Memory) => Err(Unfound::Memory),
+        Err(StepRefused::ShelfFault) => Err(FindRefused::ShelfFault),
+        Err(StepRefused::Memory) => Err(FindRefused::Memory),
         Err(StepRefused::Malformed(_) | StepRefused::TooLong) => unreachable!(),
     }
 }
 
 // What is found of the log of a job's box.
-fn judge_job<H: Shelf>(alloc: Global, job: &Job, shelf: &mut H) -> Result<Finding, Unfound>
+fn judge_job<H: Shelf>(alloc: Global, job: &Job, shelf: &mut H) -> Result<Finding, FindRefused>
     requires none_begun { H.begun_name shelf.old ≡ None }
     ensures found { IfOk result (λ f. AnswersBoxLog H.files H.finds Solves job.now shelf.old (answer_by f)) }
-    ensures shelf_fault { IsErrOf result Unfound.ShelfFault → Rose (H.faults shelf.old) (H.faults shelf.new) }
-    ensures no_read_fault { IsErrOf result Unfound.ReadFault → ⊥ }
+    ensures shelf_fault { IsErrOf result FindRefused.ShelfFault → Rose (H.faults shelf.old) (H.faults shelf.new) }
+    ensures no_read_fault { IsErrOf result FindRefused.ReadFault → ⊥ }
     ensures files { FilesStay (H.files shelf.old) (H.files shelf.new) }
     ensures begun { H.begun_name shelf.new ≡ None }
 {
@@ -120,12 +121,12 @@ fn verify_spec<H: Shelf>(
     spec: &Spec,
     size: Size,
     shelf: &mut H,
-) -> Result<Finding, Unfound>
+) -> Result<Finding, FindRefused>
     requires none_begun { H.begun_name shelf.old ≡ None }
     ensures found { IfOk result (λ f. AnswersListed H.files H.finds Solves (lists_box size spec.now) (job_of spec.now size) shelf.old shelf.new (answer_by f)) }
-    ensures shelf_fault { IsErrOf result Unfound.ShelfFault → Rose (H.faults shelf.old) (H.faults shelf.new) }
-    ensures asked { IsErrOf result Unfound.ShelfFault → lists_box size spec.now ≡ true }
-    ensures no_read_fault { IsErrOf result Unfound.ReadFault → ⊥ }
+    ensures shelf_fault { IsErrOf result FindRefused.ShelfFault → Rose (H.faults shelf.old) (H.faults shelf.new) }
+    ensures asked { IsErrOf result FindRefused.ShelfFault → lists_box size spec.now ≡ true }
+    ensures no_read_fault { IsErrOf result FindRefused.ReadFault → ⊥ }
     ensures files { FilesStay (H.files shelf.old) (H.files shelf.new) }
     ensures begun { H.begun_name shelf.new ≡ None }
 {
@@ -141,20 +142,20 @@ pub(crate) fn verify<H: Shelf>(
     bytes: &[u8],
     size: Size,
     shelf: &mut H,
-) -> Result<Finding, Unfound>
+) -> Result<Finding, FindRefused>
     requires none_begun { H.begun_name shelf.old ≡ None }
 
     // The log is accepted exactly where its steps refute the clauses of the listed box. Then no diagram solves the box's job.
     ensures found { IfOk result (λ f. AnswersVerify H.files H.finds Solves size (spec_of bytes.now) shelf.old shelf.new (answer_by f)) }
-    ensures shelf_fault { IsErrOf result Unfound.ShelfFault → Rose (H.faults shelf.old) (H.faults shelf.new) }
-    ensures asked { IsErrOf result Unfound.ShelfFault → IsOkAnd (spec_of bytes.now) (λ b. lists_box size b ≡ true) }
-    ensures no_read_fault { IsErrOf result Unfound.ReadFault → ⊥ }
+    ensures shelf_fault { IsErrOf result FindRefused.ShelfFault → Rose (H.faults shelf.old) (H.faults shelf.new) }
+    ensures asked { IsErrOf result FindRefused.ShelfFault → IsOkAnd (spec_of bytes.now) (λ b. lists_box size b ≡ true) }
+    ensures no_read_fault { IsErrOf result FindRefused.ReadFault → ⊥ }
     ensures files { FilesStay (H.files shelf.old) (H.files shelf.new) }
     ensures begun { H.begun_name shelf.new ≡ None }
 {
     match read_spec(alloc, bytes) {
         Ok(spec) => verify_spec(alloc, &spec, size, shelf),
-        Err(SpecRefused::Memory) => Err(Unfound::Memory),
+        Err(SpecRefused::Memory) => Err(FindRefused::Memory),
         Err(refusal) => Ok(Finding::Refused(Refusal::Spec(refusal))),
     }
 }

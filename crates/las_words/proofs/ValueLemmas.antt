@@ -10,7 +10,8 @@ use Rattle.std.proofs.lemmas.Str.Pattern.{IsSplitOnceResult, split_after}
 use Rattle.std.proofs.lemmas.Bool.{and_parts, ltb-true, leb-true}
 use Rattle.las_base.specs.declared.Size.{Size}
 use Rattle.las_base.specs.Jobs.{within_limits}
-use Rattle.las_words.specs.Forms.{Text, size_text}
+use Rattle.las_base.specs.Texts.{size_text}
+use Rattle.las_words.specs.Forms.{Text}
 use Rattle.las_words.specs.Verbs.{ReadsNumber, ReadsBox, ReadsSize}
 
 own : IsNumeralModel (AllDigits 10) (digits_value 10)

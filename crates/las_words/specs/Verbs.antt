@@ -8,7 +8,8 @@ use Rattle.las_words.specs.declared.command.Command.{Command}
 use Rattle.las_words.specs.declared.command.Command.TheVariants as command
 use Rattle.las_words.specs.declared.verb.Verb.{Verb}
 use Rattle.las_words.specs.declared.verb.Verb.TheVariants.{Sweep, Check, Audit, Verify, Spec, Zx, Bench}
-use Rattle.las_words.specs.Forms.{Text, size_text}
+use Rattle.las_base.specs.Texts.{size_text}
+use Rattle.las_words.specs.Forms.{Text}
 
 -- the word that names a command
 abbrev pub word_of : Verb → Text

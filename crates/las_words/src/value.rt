@@ -1,11 +1,12 @@
 // The value of a command, read as the command wants it.
 ghost use Rattle.std.specs.Prelude.{◌≡◌, ◌<◌, ◌≤◌, ◌↔◌, ◌^◌, IsTrue, IfOk, IfSome, option_map, slice_index, Some, None};
+ghost use Rattle.las_base.specs.Cells.{most_side};
 ghost use Rattle.las_words.specs.Verbs.{ReadsNumber, ReadsBox, ReadsSize, Reads};
 ghost use Rattle.las_words.specs.declared.verb.Verb.TheVariants as verb;
 
 use crate::verb::Verb;
 use crate::{Command, Name};
-use las_base::Size;
+use las_base::{MOST_SIDE, Size};
 use las_io::is_lawful_name;
 use std::alloc::{AllocError, Global};
 
@@ -44,9 +45,9 @@ fn number(text: &str, low: u64, high: u64) -> Option<u64>
 
 // The box with these sides, where there is one.
 fn box_of(i: Option<u64>, j: Option<u64>, k: Option<u64>) -> Option<Size>
-    requires i { IfSome i (λ n. n ≤ 32) }
-    requires j { IfSome j (λ n. n ≤ 32) }
-    requires k { IfSome k (λ n. n ≤ 32) }
+    requires i { IfSome i (λ n. n ≤ most_side) }
+    requires j { IfSome j (λ n. n ≤ most_side) }
+    requires k { IfSome k (λ n. n ≤ most_side) }
     ensures { ReadsBox i j k result }
 {
     let size = Size {
@@ -67,7 +68,11 @@ fn size(text: &str) -> Option<Size>
 {
     match text.split_once('x') {
         Some((i, rest)) => match rest.split_once('x') {
-            Some((j, k)) => box_of(number(i, 1, 32), number(j, 1, 32), number(k, 1, 32)),
+            Some((j, k)) => box_of(
+                number(i, 1, MOST_SIDE as u64),
+                number(j, 1, MOST_SIDE as u64),
+                number(k, 1, MOST_SIDE as u64),
+            ),
             None => None,
         },
         None => None,

@@ -19,24 +19,24 @@ use Rattle.lasre_codec.specs.declared.refusal.LasreRefused.{LasreRefused}
 use Rattle.lasre_codec.specs.declared.refusal.LasreRefused.TheVariants.{Length, Shape}
 use Rattle.lasre_codec.specs.Members.{tested}
 use Rattle.lasre_codec.specs.Entries.{entries_of, first_bad, drawing_in, surfaces_in, shows_sheet}
-use Rattle.lasre_codec.specs.Documents.{IsLasre, lasre_as, missing_in, misshapen_in, ragged_in, judged, shown_in, given_for, given_by, of_job, lasre_in}
-use Rattle.lasre_codec.specs.Kept.{kept_of, AreKept}
+use Rattle.lasre_codec.specs.Documents.{IsLasre, lasre_as, missing_in, misshapen_in, wrong_length_in, judged, shown_in, given_for, given_by, of_job, lasre_in}
+use Rattle.lasre_codec.specs.Kept.{entries_kept, AreKept}
 
 module _ (d : Data) (t : Task) (grids : List (Vec Entry Global)) (kept : AreKept d grids) where
-  kept_is : kept_of grids ≡ entries_of d
+  kept_is : entries_kept grids ≡ entries_of d
   kept_is = λ i m. kept m i
 
-  pub given_bad : (r : LasreRefused) → ragged_in t d ≡ None → first_bad (kept_of grids) (volume t.size) tested ≡ Some r → given_for t d ≡ Err r
+  pub given_bad : (r : LasreRefused) → wrong_length_in t d ≡ None → first_bad (entries_kept grids) (volume t.size) tested ≡ Some r → given_for t d ≡ Err r
   given_bad r full bad =
       ap (λ o. judged (option_or (option_map Length o) (first_bad (entries_of d) (volume t.size) tested)) (shown_in t d)) full
       ∙ ap (λ o. judged o (shown_in t d)) (ap (λ es. first_bad es (volume t.size) tested) (sym kept_is) ∙ bad)
 
-  pub given_shown : (g : Drawing) (f : Surfaces) → ragged_in t d ≡ None → first_bad (kept_of grids) (volume t.size) tested ≡ None → g ≡ drawing_in (kept_of grids) t.size → f ≡ surfaces_in (kept_of grids) t.size (length t.flows) → given_for t d ≡ Ok (lasre_as t g f)
+  pub given_shown : (g : Drawing) (f : Surfaces) → wrong_length_in t d ≡ None → first_bad (entries_kept grids) (volume t.size) tested ≡ None → g ≡ drawing_in (entries_kept grids) t.size → f ≡ surfaces_in (entries_kept grids) t.size (length t.flows) → given_for t d ≡ Ok (lasre_as t g f)
   given_shown g f full good g_is f_is =
       ap (λ o. judged (option_or (option_map Length o) (first_bad (entries_of d) (volume t.size) tested)) (shown_in t d)) full
       ∙ ap (λ o. judged o (shown_in t d)) (ap (λ es. first_bad es (volume t.size) tested) (sym kept_is) ∙ good)
       ∙ ap (λ es. Ok (lasre_as t (drawing_in es t.size) (surfaces_in es t.size (length t.flows)))) (sym kept_is)
-      ∙ ap (λ x. Ok (lasre_as t x (surfaces_in (kept_of grids) t.size (length t.flows)))) (sym g_is)
+      ∙ ap (λ x. Ok (lasre_as t x (surfaces_in (entries_kept grids) t.size (length t.flows)))) (sym g_is)
       ∙ ap (λ x. Ok (lasre_as t g x)) (sym f_is)
 
 pub shown_fits : (es : Member → List Entry) (t : Task) (g : Drawing) (f : Surfaces) → IsTask t → IsDrawing g → IsSurfaces f → g ≡ drawing_in es t.size → f ≡ surfaces_in es t.size (length t.flows) → IsLasre (lasre_as t g f)

@@ -19,7 +19,7 @@ use Rattle.lasre_codec.specs.declared.member.Member.TheVariants.{ColorI, ColorJ,
 use Rattle.lasre_codec.specs.declared.refusal.LasreRefused.TheVariants.{Length, Bit}
 use Rattle.lasre_codec.specs.Members.{member_name, is_grid, is_needed, is_stack, members, grids, tested}
 use Rattle.lasre_codec.specs.Entries.{entries_in, entries_of, or_none, is_bit, is_bit_at, counts_at, is_bad_at, bad_place, first_bad, surfaces_in}
-use Rattle.lasre_codec.specs.Documents.{Lasre, IsLasre, lasre_as, without_absent, missing_in, misshapen_in, is_full, ragged_in, judged, shown_in, given_for, lasre_in}
+use Rattle.lasre_codec.specs.Documents.{Lasre, IsLasre, lasre_as, without_absent, missing_in, misshapen_in, is_full, wrong_length_in, judged, shown_in, given_for, lasre_in}
 use Rattle.lasre_codec.specs.Texts.{grid_value, bit_of, bits_value, member_value, lasre_value}
 use Rattle.lasre_codec.proofs.GridLemmas.{written, parts, grid_back, stack_back, grid_lengths, stack_lengths, bits_written, parts_are_bits}
 use Rattle.lasre_codec.proofs.ShownLemmas.{writes, drawing_shown}
@@ -135,8 +135,8 @@ module _ (l : Lasre) (h : IsLasre l) where
   none_misshapen : misshapen_in d ≡ None
   none_misshapen = find_none is_grid (λ m. is_none (entries_in d m)) (λ m g. rw (entries_back m g) refl) grids refl
 
-  none_ragged : ragged_in l.task d ≡ None
-  none_ragged = find_none is_grid (λ m. not (is_full l.task d m)) (λ m g. ap not (full m g)) grids refl
+  none_wrong_length : wrong_length_in l.task d ≡ None
+  none_wrong_length = find_none is_grid (λ m. not (is_full l.task d m)) (λ m g. ap not (full m g)) grids refl
 
   no_bad_place : (m : Member) → is_grid m ≡ true → bad_place (entries_of d) (volume s) m ≡ None
   no_bad_place m g =
@@ -160,7 +160,7 @@ module _ (l : Lasre) (h : IsLasre l) where
 
   given_back : given_for l.task d ≡ Ok (without_absent l)
   given_back =
-      ap (λ o. judged (option_or (option_map Length o) (first_bad (entries_of d) (volume s) tested)) (shown_in l.task d)) none_ragged
+      ap (λ o. judged (option_or (option_map Length o) (first_bad (entries_of d) (volume s) tested)) (shown_in l.task d)) none_wrong_length
       ∙ ap (λ o. judged o (shown_in l.task d)) (none_bad tested refl)
       ∙ ap Ok shown_back
 

@@ -66,8 +66,8 @@ abbrev pub is_full : Task → Data → Member → Bool
 is_full t d m = option_map_or (has_lengths (lengths_of t m)) (get (member_name m) d) false
 
 -- the first grid with an array of a wrong length
-abbrev pub ragged_in : Task → Data → Option Member
-ragged_in t d = find (λ m. not (is_full t d m)) grids
+abbrev pub wrong_length_in : Task → Data → Option Member
+wrong_length_in t d = find (λ m. not (is_full t d m)) grids
 
 -- the refusal of a job, in a document of a diagram
 abbrev pub of_job : SpecRefused → LasreRefused
@@ -86,7 +86,7 @@ judged (Some r) l = Err r
 
 -- what grids give, for a job: a refusal of a length, then of a value that is neither 0 nor 1
 abbrev pub given_for : Task → Data → Result Lasre LasreRefused
-given_for t d = judged (option_or (option_map Length (ragged_in t d)) (first_bad (entries_of d) (volume t.size) tested)) (shown_in t d)
+given_for t d = judged (option_or (option_map Length (wrong_length_in t d)) (first_bad (entries_of d) (volume t.size) tested)) (shown_in t d)
 
 -- what a value gives, by the first member that is absent, the first grid that has not its shape, and its job
 abbrev pub given_by : Option Member → Option Member → Result Task SpecRefused → Data → Result Lasre LasreRefused

@@ -21,7 +21,7 @@ use Rattle.lasre_codec.specs.declared.member.Member.{Member}
 use Rattle.lasre_codec.specs.declared.member.Member.TheVariants.{NodeY}
 use Rattle.lasre_codec.specs.declared.refusal.LasreRefused.{LasreRefused}
 use Rattle.lasre_codec.specs.declared.refusal.LasreRefused.TheVariants.{Bit}
-use Rattle.lasre_codec.specs.Members.{member_name, is_grid, is_stack, pipes_along, colours_of, sheets_along, told_of}
+use Rattle.lasre_codec.specs.Members.{member_name, is_grid, is_stack, pipes_along, colours_of, sheets_along, axis_told}
 
 -- how deep the arrays of a grid nest
 abbrev pub nesting_of : Member → ℕ
@@ -72,7 +72,7 @@ flow_part s flow es = take (volume s) (drop (flow * volume s) es)
 
 -- the value at a place counts: a colour or a sheet where its pipe exists, and every other value
 abbrev pub counts_at : (Member → List Entry) → ℕ → Member → ℕ → Bool
-counts_at es cells m place = option_map_or (λ a. is_one_at (es (pipes_along a)) (place % cells)) (told_of m) true
+counts_at es cells m place = option_map_or (λ a. is_one_at (es (pipes_along a)) (place % cells)) (axis_told m) true
 
 -- the value at a place counts, and is neither 0 nor 1
 abbrev pub is_bad_at : (Member → List Entry) → ℕ → Member → ℕ → Bool

@@ -9,9 +9,9 @@ use Rattle.lasre_codec.specs.Members.{member_number}
 use Rattle.lasre_codec.specs.Entries.{entries_of}
 
 -- the entries of a grid: they are kept in the order of names
-abbrev pub kept_of : List (Vec Entry Global) → Member → List Entry
-kept_of grids m = option_map_or (λ v. v.items) (slice_get grids (member_number m)) []
+abbrev pub entries_kept : List (Vec Entry Global) → Member → List Entry
+entries_kept grids m = option_map_or (λ v. v.items) (slice_get grids (member_number m)) []
 
 -- these are the entries of each grid of a value
 abbrev pub AreKept : Data → List (Vec Entry Global) → Type 0
-AreKept d grids = (m : Member) → kept_of grids m ≡ entries_of d m
+AreKept d grids = (m : Member) → entries_kept grids m ≡ entries_of d m

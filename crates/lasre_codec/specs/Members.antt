@@ -114,18 +114,18 @@ is_stack CorrKJ = true
 is_stack _ = false
 
 -- the axis of the pipes whose colours or sheets the grid tells: its values count where these exist
-abbrev pub told_of : Member → Option Axis
-told_of ColorI = Some I
-told_of ColorJ = Some J
-told_of ColorKM = Some K
-told_of ColorKP = Some K
-told_of CorrIJ = Some I
-told_of CorrIK = Some I
-told_of CorrJI = Some J
-told_of CorrJK = Some J
-told_of CorrKI = Some K
-told_of CorrKJ = Some K
-told_of _ = None
+abbrev pub axis_told : Member → Option Axis
+axis_told ColorI = Some I
+axis_told ColorJ = Some J
+axis_told ColorKM = Some K
+axis_told ColorKP = Some K
+axis_told CorrIJ = Some I
+axis_told CorrIK = Some I
+axis_told CorrJI = Some J
+axis_told CorrJK = Some J
+axis_told CorrKI = Some K
+axis_told CorrKJ = Some K
+axis_told _ = None
 
 -- the member of a job as a member of the document. Forbidden cells stand in the options
 abbrev pub member_of : Field → Member

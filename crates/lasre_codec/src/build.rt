@@ -4,7 +4,7 @@ ghost use Rattle.las_base.specs.Cells.{volume};
 ghost use Rattle.las_base.specs.Jobs.{within_limits};
 ghost use Rattle.grid_box.specs.Drawings.{IsDrawing};
 ghost use Rattle.lasre_codec.specs.Entries.{drawing_in, kind_by, is_one_at};
-ghost use Rattle.lasre_codec.specs.Kept.{kept_of};
+ghost use Rattle.lasre_codec.specs.Kept.{entries_kept};
 ghost use Rattle.lasre_codec.specs.Puts.{PutsAlong, PutsPipes, PutsYCells};
 
 use crate::entries::{entries_of, is_one_at};
@@ -70,7 +70,7 @@ fn put_y_cells(diagram: &mut Diagram, size: Size, entries: &[Entry])
 fn put_along(diagram: &mut Diagram, size: Size, axis: Axis, grids: &[Vec<Entry>])
     requires drawn { IsDrawing diagram.old }
     requires same { diagram.old.size ≡ size }
-    ensures pipes { PutsAlong (kept_of grids.now) size axis diagram.old diagram.new }
+    ensures pipes { PutsAlong (entries_kept grids.now) size axis diagram.old diagram.new }
     ensures y_cells { diagram.new.y_cells ≡ diagram.old.y_cells }
     ensures size { diagram.new.size ≡ size }
     ensures drawn { IsDrawing diagram.new }
@@ -88,7 +88,7 @@ pub(crate) fn build_diagram(
     grids: &[Vec<Entry>],
 ) -> Result<Diagram, AllocError>
     requires { IsTrue (within_limits size) }
-    ensures shown { IfOk result (λ d. d ≡ drawing_in (kept_of grids.now) size) }
+    ensures shown { IfOk result (λ d. d ≡ drawing_in (entries_kept grids.now) size) }
     ensures drawn { IfOk result (λ d. IsDrawing d) }
 {
     let mut diagram = Diagram::new(alloc, size)?;

@@ -3,7 +3,7 @@ ghost use Rattle.std.specs.Prelude.{◌≡◌, ◌≢◌, None, IfOk, IfErr, opt
 ghost use Rattle.serde_json.specs.View.{view};
 ghost use Rattle.lasre_codec.specs.Entries.{entries_in, entries_of, nesting_of, is_bit_at, is_one_at};
 ghost use Rattle.lasre_codec.specs.Documents.{misshapen_in};
-ghost use Rattle.lasre_codec.specs.Kept.{kept_of, AreKept};
+ghost use Rattle.lasre_codec.specs.Kept.{entries_kept, AreKept};
 ghost use Rattle.lasre_codec.specs.declared.refusal.LasreRefused.TheVariants.{Memory, Shape};
 
 use crate::member::{GRIDS, Member};
@@ -49,7 +49,7 @@ pub(crate) fn read_grids(alloc: Global, value: &Value) -> Result<Vec<Vec<Entry>>
 
 /// The entries of a grid. Other members have none.
 pub(crate) fn entries_of(grids: &[Vec<Entry>], member: Member) -> &[Entry]
-    ensures { result.now ≡ kept_of grids.now member }
+    ensures { result.now ≡ entries_kept grids.now member }
 {
     match grids.get(member.number()) {
         Some(entries) => entries,

@@ -6,14 +6,13 @@
 mod bits;
 mod build;
 mod entries;
-mod laws;
+pub mod laws;
 mod member;
 mod read;
 mod refusal;
 mod sheets;
 mod write;
 
-pub use laws::text_is_read_back;
 pub use member::Member;
 pub use read::{Lasre, read_lasre};
 pub use refusal::LasreRefused;

@@ -1,6 +1,6 @@
 // The members of a document of a diagram.
 ghost use Rattle.std.specs.Prelude.{◌≡◌};
-ghost use Rattle.lasre_codec.specs.Members.{member_name, member_number, member_of, is_stack, told_of, pipes_along, colours_of, sheets_along};
+ghost use Rattle.lasre_codec.specs.Members.{member_name, member_number, member_of, is_stack, axis_told, pipes_along, colours_of, sheets_along};
 
 use las_base::{Axis, End};
 use las_spec::Field;
@@ -157,8 +157,8 @@ impl Member {
     }
 
     /// The axis of the pipes whose colours or sheets it tells.
-    pub(crate) fn told_of(self) -> Option<Axis>
-        ensures { result ≡ told_of self }
+    pub(crate) fn axis_told(self) -> Option<Axis>
+        ensures { result ≡ axis_told self }
     {
         match self {
             Member::ColorI | Member::CorrIJ | Member::CorrIK => Some(Axis::I),

@@ -5,7 +5,7 @@ ghost use Rattle.serde_json.specs.Find.{get};
 ghost use Rattle.lasre_codec.specs.declared.refusal.LasreRefused.TheVariants.{Memory};
 ghost use Rattle.lasre_codec.specs.Members.{is_needed, member_name};
 ghost use Rattle.lasre_codec.specs.Kept.{AreKept};
-ghost use Rattle.lasre_codec.specs.Documents.{IsLasre, is_full, given_for, lasre_as, lasre_in, lasre_of, missing_in, of_job, ragged_in};
+ghost use Rattle.lasre_codec.specs.Documents.{IsLasre, is_full, given_for, lasre_as, lasre_in, lasre_of, missing_in, of_job, wrong_length_in};
 
 use crate::bits::first_bad;
 use crate::build::build_diagram;
@@ -56,8 +56,8 @@ fn is_full(job: &Job, value: &Value, member: Member) -> bool
     }
 }
 
-fn ragged(job: &Job, value: &Value) -> Option<Member>
-    ensures { result ≡ ragged_in job.now (view value.now) }
+fn wrong_length(job: &Job, value: &Value) -> Option<Member>
+    ensures { result ≡ wrong_length_in job.now (view value.now) }
 {
     GRIDS
         .iter()
@@ -88,7 +88,7 @@ fn build(
     ensures fits { IfOk result (λ l. IsLasre (lasre_as l.job l.diagram l.sheets)) }
     ensures err { IfErr result (λ e. e ≢ Memory → given_for job (view value.now) ≡ Err e) }
 {
-    if let Some(member) = ragged(&job, value) {
+    if let Some(member) = wrong_length(&job, value) {
         return Err(LasreRefused::Length(member));
     }
     let size = job.size();

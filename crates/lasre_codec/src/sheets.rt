@@ -1,9 +1,9 @@
 // The sheets that entries show.
 ghost use Rattle.std.specs.Prelude.{◌≡◌, ◌≢◌, ◌&&◌, ◌+◌, ◌<◌, ◌≤◌, length, IfOk, IsTrue};
-ghost use Rattle.las_base.specs.Jobs.{within_limits};
+ghost use Rattle.las_base.specs.Jobs.{most_flows, within_limits};
 ghost use Rattle.grid_box.specs.Surfaces.{IsSurfaces, sheet_axes};
 ghost use Rattle.lasre_codec.specs.Entries.{is_one_at, surfaces_in, flow_part};
-ghost use Rattle.lasre_codec.specs.Kept.{kept_of};
+ghost use Rattle.lasre_codec.specs.Kept.{entries_kept};
 ghost use Rattle.lasre_codec.specs.Puts.{PutsSheets, PutsFlow};
 
 use crate::entries::{entries_of, is_one_at};
@@ -56,7 +56,7 @@ fn put_sheets(sheets: &mut Sheets, flow: usize, axes: (Axis, Axis), exist: &[Ent
 fn put_flow(sheets: &mut Sheets, flow: usize, grids: &[Vec<Entry>])
     requires kept { IsSurfaces sheets.old }
     requires flow { flow < length sheets.old.flows }
-    ensures sheets { PutsFlow (kept_of grids.now) sheets.old.size flow sheet_axes sheets.old sheets.new }
+    ensures sheets { PutsFlow (entries_kept grids.now) sheets.old.size flow sheet_axes sheets.old sheets.new }
     ensures size { sheets.new.size ≡ sheets.old.size }
     ensures count { length sheets.new.flows ≡ length sheets.old.flows }
     ensures kept { IsSurfaces sheets.new }
@@ -76,8 +76,8 @@ pub(crate) fn build_sheets(
     grids: &[Vec<Entry>],
 ) -> Result<Sheets, AllocError>
     requires limits { IsTrue (within_limits size) }
-    requires count { flows ≤ 32 }
-    ensures shown { IfOk result (λ s. s ≡ surfaces_in (kept_of grids.now) size flows) }
+    requires count { flows ≤ most_flows }
+    ensures shown { IfOk result (λ s. s ≡ surfaces_in (entries_kept grids.now) size flows) }
     ensures kept { IfOk result (λ s. IsSurfaces s) }
 {
     let mut sheets = Sheets::new(alloc, size, flows)?;

@@ -3,20 +3,18 @@
 //! fails. Nothing takes memory.
 #![tactic(auto)]
 
-ghost use Rattle.std.specs.Prelude.{◌≡◌, not};
-ghost use Rattle.std.specs.List.{find};
-ghost use Rattle.las_base.specs.Cells.{IsNear};
+ghost use Rattle.std.specs.Prelude.{◌≡◌};
+ghost use Rattle.las_base.specs.Cells.{IsOnGrid};
 ghost use Rattle.grid_box.specs.Breaches.{pipe_breach};
-ghost use Rattle.grid_box.specs.PipeRules.{named_cells};
-ghost use Rattle.pipe_rules.specs.Tests.{keeps};
+ghost use Rattle.pipe_rules.specs.Rules.{keeps};
 
 mod legs;
-mod tests_at;
+mod rules;
 
-use grid_box::{Broken, Diagram, first_failing};
+use grid_box::{Broken, Diagram, first_breach};
 use las_base::Cell;
 use las_spec::Job;
-use tests_at::{
+use rules::{
     has_no_three_axes, has_port_pipe, is_no_dead_end, leaves_forbidden_empty, stays_in_box,
     y_cube_has_one_k_leg,
 };
@@ -44,7 +42,7 @@ const RULES: [(u8, Rule); 6] = [
 
 // Whether a rule holds at a cell.
 fn keeps(rule: Rule, job: &Job, diagram: &Diagram, cell: Cell) -> bool
-    requires { IsNear cell }
+    requires { IsOnGrid cell }
     ensures { result ≡ keeps rule job.now diagram.now cell }
 {
     match rule {
@@ -57,25 +55,14 @@ fn keeps(rule: Rule, job: &Job, diagram: &Diagram, cell: Cell) -> bool
     }
 }
 
-// The first cell that breaks a rule, among those at which a pipe of the box can end.
-fn first_breaking(rule: Rule, job: &Job, diagram: &Diagram) -> Option<Cell>
-    requires { diagram.now.size ≡ job.now.size }
-    ensures { result ≡ find (λ c. not (keeps rule job.now diagram.now c)) (named_cells job.now.size) }
-{
-    first_failing(diagram.size(), |cell| keeps(rule, job, diagram, cell))
-}
-
 /// The first breach of the rules of pipes: of the least rule, and among these at the least cell.
 pub fn first_broken(job: &Job, diagram: &Diagram) -> Option<Broken>
     requires { diagram.now.size ≡ job.now.size }
     ensures { result ≡ pipe_breach job.now diagram.now }
 {
-    for (number, rule) in RULES {
-        if let Some(cell) = first_breaking(rule, job, diagram) {
-            return Some(Broken { rule: number, cell });
-        }
-    }
-    None
+    first_breach(&RULES, diagram.size(), |rule, cell| {
+        keeps(rule, job, diagram, cell)
+    })
 }
 
 #[cfg(test)]

@@ -5,16 +5,12 @@
 //! documents.
 #![tactic(auto)]
 
-mod examples;
+pub mod examples;
 mod labels;
-mod laws;
+pub mod laws;
 mod sheets;
 mod text;
 
-pub use examples::{
-    both_sheets_are_y, comb_labels_give_sheets, comb_sheets_give_labels, wall_turns_labels,
-};
 pub use labels::labels_of;
-pub use laws::{joint_law, labels_give_sheets, sheets_are_flows, sheets_give_labels, straight_law};
 pub use sheets::sheets_of;
 pub use text::flow_text;

@@ -1,3 +1,3 @@
-pub mod Tests
+pub mod Rules
 pub mod LegSheets
 pub mod Serving

@@ -3,23 +3,20 @@
 //! where it first fails. Nothing takes memory.
 #![tactic(auto)]
 
-ghost use Rattle.std.specs.Prelude.{◌≡◌, ◌<◌, [], not, length, slice_index_or};
-ghost use Rattle.std.specs.List.{find};
-ghost use Rattle.las_base.specs.Cells.{IsNear};
-ghost use Rattle.grid_box.specs.PipeRules.{named_cells};
+ghost use Rattle.std.specs.Prelude.{◌≡◌, ◌<◌, [], length, slice_index_or};
+ghost use Rattle.las_base.specs.Cells.{IsOnGrid};
 ghost use Rattle.grid_box.specs.Sheets.{sheet_breach};
 ghost use Rattle.grid_box.specs.Surfaces.{sheets_of};
-ghost use Rattle.surface_rules.specs.Tests.{keeps};
+ghost use Rattle.surface_rules.specs.Rules.{keeps};
 
-mod laws;
+pub mod laws;
 mod leg_sheets;
-mod tests_at;
+mod rules;
 
-use grid_box::{Broken, Diagram, Sheets, first_failing};
+use grid_box::{Broken, Diagram, Sheets, first_breach};
 use las_base::Cell;
 use las_spec::Job;
-pub use laws::no_breach_serves;
-use tests_at::{ports_spell, sheets_join, y_sheets_match};
+use rules::{ports_spell, sheets_join, y_sheets_match};
 
 /// A rule of sheets.
 #[derive(Clone, Copy, PartialEq, Eq, Debug)]
@@ -29,10 +26,17 @@ enum Rule {
     SheetsJoin,
 }
 
+// The rules by their numbers.
+const RULES: [(u8, Rule); 3] = [
+    (1, Rule::PortsSpell),
+    (2, Rule::YSheetsMatch),
+    (3, Rule::SheetsJoin),
+];
+
 // Whether a rule holds at a cell.
 fn keeps(rule: Rule, job: &Job, diagram: &Diagram, sheets: &Sheets, flow: usize, cell: Cell) -> bool
     requires flow { flow < length job.now.flows }
-    requires near { IsNear cell }
+    requires near { IsOnGrid cell }
     ensures { result ≡ keeps rule job.now diagram.now (sheets_of sheets.now flow) (slice_index_or job.now.flows flow []) cell }
 {
     match rule {
@@ -42,23 +46,6 @@ fn keeps(rule: Rule, job: &Job, diagram: &Diagram, sheets: &Sheets, flow: usize,
     }
 }
 
-// The first cell that breaks a rule, among those at which a pipe of the box can end.
-fn first_breaking(
-    rule: Rule,
-    job: &Job,
-    diagram: &Diagram,
-    sheets: &Sheets,
-    flow: usize,
-) -> Option<Cell>
-    requires size { diagram.now.size ≡ job.now.size }
-    requires flow { flow < length job.now.flows }
-    ensures { result ≡ find (λ c. not (keeps rule job.now diagram.now (sheets_of sheets.now flow) (slice_index_or job.now.flows flow []) c)) (named_cells job.now.size) }
-{
-    first_failing(diagram.size(), |cell| {
-        keeps(rule, job, diagram, sheets, flow, cell)
-    })
-}
-
 /// The first breach of the rules of sheets for one flow: of the least rule, and among these at the least
 /// cell.
 pub fn first_bad_sheet(job: &Job, diagram: &Diagram, sheets: &Sheets, flow: usize) -> Option<Broken>
@@ -66,16 +53,9 @@ pub fn first_bad_sheet(job: &Job, diagram: &Diagram, sheets: &Sheets, flow: usiz
     requires flow { flow < length job.now.flows }
     ensures { result ≡ sheet_breach job.now diagram.now (sheets_of sheets.now flow) (slice_index_or job.now.flows flow []) }
 {
-    if let Some(cell) = first_breaking(Rule::PortsSpell, job, diagram, sheets, flow) {
-        return Some(Broken { rule: 1, cell });
-    }
-    if let Some(cell) = first_breaking(Rule::YSheetsMatch, job, diagram, sheets, flow) {
-        return Some(Broken { rule: 2, cell });
-    }
-    if let Some(cell) = first_breaking(Rule::SheetsJoin, job, diagram, sheets, flow) {
-        return Some(Broken { rule: 3, cell });
-    }
-    None
+    first_breach(&RULES, diagram.size(), |rule, cell| {
+        keeps(rule, job, diagram, sheets, flow, cell)
+    })
 }
 
 #[cfg(test)]

@@ -8,21 +8,14 @@ ghost use Rattle.std.specs.Prelude.{◌≡◌, ◌↔◌, ◌<◌, ◌^◌, None
 ghost use Rattle.zx_flow.specs.Flows.{Labelled, bad_label};
 
 mod ends;
-mod examples;
+pub mod examples;
 mod labels;
-mod laws;
+pub mod laws;
 mod rules;
 
-pub use ends::has_part;
-pub use examples::{
-    comb_labels_obey, edge_ends_differ_at_edge_3, port_letter_is_wrong_at_port_1,
-    spider_is_odd_at_node_0, wall_exchanges_x_and_z, x_spider_is_odd_at_node_2,
-    y_end_takes_one_or_y,
-};
 pub use labels::Labels;
 use las_base::Kind;
 use las_spec::FlowWord;
-pub use laws::no_bad_label_is_labelled;
 use rules::{first_bad_edge, first_bad_port, first_bad_spider, first_bad_y_end};
 use zx_graph::ZxGraph;
 

@@ -4,15 +4,13 @@
 //! cell. The crate knows nothing of sheets and of flows.
 #![tactic(auto)]
 
-mod examples;
+pub mod examples;
 mod graph;
-mod laws;
+pub mod laws;
 mod nodes;
 mod text;
 
-pub use examples::{comb_is_six_nodes, wall_is_a_hadamard_edge, y_cube_is_a_y_end};
 pub use graph::{Edge, ZxGraph, graph_of};
-pub use laws::edges_join_their_cells;
 pub use nodes::{Node, NodeSort};
 pub use text::graph_text;
 

@@ -1,5 +1,6 @@
 use Rattle.std.proofs.Common.{◌≡◌, [], drop}
-use Rattle.las_spec.specs.Briefs.{once, same_size}
+use Rattle.las_base.specs.Cells.{same_size}
+use Rattle.las_spec.specs.Briefs.{once}
 use Rattle.las_spec.proofs.make.sizes_once.Given as goal
 
 abbrev pub invariant-loop-size : goal.invariant-loop-size

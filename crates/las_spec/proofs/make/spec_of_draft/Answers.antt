@@ -1,7 +1,7 @@
 use Rattle.std.proofs.Common.{◌∙◌, ap, map, []}
 use Rattle.std.specs.List.{filter_map}
-use Rattle.las_base.specs.Cells.{same_cell}
-use Rattle.las_spec.specs.Briefs.{once, same_size, port_of, letters_of}
+use Rattle.las_base.specs.Cells.{same_cell, same_size}
+use Rattle.las_spec.specs.Briefs.{once, port_of, letters_of}
 use Rattle.las_spec.specs.Written.{written_as}
 use Rattle.las_spec.proofs.BriefLemmas.{spec_is_brief, brief_by_parts}
 use Rattle.las_spec.proofs.TableLemmas.{letters_in}

@@ -2,8 +2,9 @@ use Rattle.std.proofs.Common.{◌∙◌, ◌<◌, ◌≤◌, sym, ap, length, ge
 use Rattle.std.proofs.lemmas.Option.{slice_get-get_or}
 use Rattle.las_base.specs.declared.Size.{Size}
 use Rattle.las_spec.specs.Briefs.{job_of}
-use Rattle.las_top.specs.Audit.{same_job}
-use Rattle.las_top.proofs.AuditLemmas.{any_at, any_passed, any_none}
+use Rattle.las_base.specs.Jobs.{same_job}
+use Rattle.las_base.proofs.Same.{any_at}
+use Rattle.las_top.proofs.AuditLemmas.{any_passed, any_none}
 use Rattle.las_top.proofs.audit.is_listed.Goals as goal
 
 -- any size, for a place that no list has

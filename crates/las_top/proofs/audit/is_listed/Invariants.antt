@@ -1,7 +1,7 @@
 use Rattle.std.proofs.Common.{◌≡◌, take, false}
 use Rattle.std.specs.List.{list_any}
 use Rattle.las_spec.specs.Briefs.{job_of}
-use Rattle.las_top.specs.Audit.{same_job}
+use Rattle.las_base.specs.Jobs.{same_job}
 use Rattle.las_top.proofs.audit.is_listed.Given as goal
 
 abbrev pub invariant-loop-number : goal.invariant-loop-number

@@ -1,6 +1,6 @@
 use Rattle.std.proofs.Common.{◌∙◌, ◌≤◌, sym, ap, length, Some, arith}
-use Rattle.las_spec.specs.Briefs.{same_size}
-use Rattle.las_spec.proofs.Distinct.{same_size-is}
+use Rattle.las_base.specs.Cells.{same_size}
+use Rattle.las_base.proofs.Same.{same_size-is}
 use Rattle.las_top.proofs.AuditLemmas.{any_passed, any_none}
 use Rattle.las_top.proofs.verify.number_of.Goals as goal
 

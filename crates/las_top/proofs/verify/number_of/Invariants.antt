@@ -1,6 +1,6 @@
 use Rattle.std.proofs.Common.{◌≡◌, take, false}
 use Rattle.std.specs.List.{list_any}
-use Rattle.las_spec.specs.Briefs.{same_size}
+use Rattle.las_base.specs.Cells.{same_size}
 use Rattle.las_top.proofs.verify.number_of.Given as goal
 
 abbrev pub invariant-loop-number : goal.invariant-loop-number

@@ -1,14 +1,14 @@
 use Rattle.std.proofs.Common.{◌∙◌, sym, ap, subst, length}
 use Rattle.std.proofs.lemmas.List.{length-replicate}
 use Rattle.grid_box.specs.Surfaces.{sheet_axes}
-use Rattle.lasre_codec.specs.Kept.{kept_of}
+use Rattle.lasre_codec.specs.Kept.{entries_kept}
 use Rattle.lasre_codec.specs.Puts.{PutsFlow}
 use Rattle.lasre_codec.proofs.PutLemmas.{PutsFlows, no_flows, flow_put, built_are_shown}
 use Rattle.lasre_codec.proofs.sheets.build_sheets.Goals as goal
 
 pub loop-flow-init : goal.loop-flow-init
 loop-flow-init c =
-    let es = kept_of c.args.grids.now in
+    let es = entries_kept c.args.grids.now in
     let empty = c.in_ok-sheets.ensures.empty in
     record {
       kept = c.in_ok-sheets.ensures.kept;
@@ -19,7 +19,7 @@ loop-flow-init c =
 
 pub loop-flow-preserved : goal.loop-flow-preserved
 loop-flow-preserved c =
-    let es = kept_of c.args.grids.now in
+    let es = entries_kept c.args.grids.now in
     let put = subst (λ x. PutsFlow es x c.loop-flow.flow sheet_axes c.loop-flow.sheets c.put_flow.new.sheets) c.loop-flow.invariant.size c.put_flow.ensures.sheets in
     record {
       kept = c.put_flow.ensures.kept;
@@ -29,4 +29,4 @@ loop-flow-preserved c =
     }
 
 pub returns-clause-shown : goal.returns-clause-shown
-returns-clause-shown c = built_are_shown (kept_of c.args.grids.now) c.args.size c.args.flows c.loop-flow.flow c.loop-flow.sheets c.requires.limits c.requires.count c.loop-flow-test.false c.loop-flow.auto.flow-end c.loop-flow.invariant
+returns-clause-shown c = built_are_shown (entries_kept c.args.grids.now) c.args.size c.args.flows c.loop-flow.flow c.loop-flow.sheets c.requires.limits c.requires.count c.loop-flow-test.false c.loop-flow.auto.flow-end c.loop-flow.invariant

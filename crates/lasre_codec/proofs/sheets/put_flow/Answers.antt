@@ -4,7 +4,7 @@ use Rattle.las_base.specs.declared.Axis.TheVariants.{I}
 use Rattle.grid_box.specs.Surfaces.{sheet_axes}
 use Rattle.lasre_codec.specs.Members.{pipes_along}
 use Rattle.lasre_codec.specs.Entries.{flow_part}
-use Rattle.lasre_codec.specs.Kept.{kept_of}
+use Rattle.lasre_codec.specs.Kept.{entries_kept}
 use Rattle.lasre_codec.specs.Puts.{PutsSheets}
 use Rattle.lasre_codec.proofs.PutLemmas.{axes_put, spans_another}
 use Rattle.lasre_codec.proofs.sheets.put_flow.Goals as goal
@@ -18,7 +18,7 @@ loop-axis-preserved c =
     let old = c.loop-axis.sheets in
     let new = c.put_sheets.new.sheets in
     let s = c.args.sheets.now.size in
-    let es = kept_of c.args.grids.now in
+    let es = entries_kept c.args.grids.now in
     let by_size = subst (λ x. PutsSheets x c.args.flow p.0 p.1 c.entries_of-exist.result.now (flow_part x c.args.flow c.entries_of-corr.result.now) old new) c.loop-axis.invariant.size c.put_sheets.ensures.sheets in
     let by_exist = subst (λ x. PutsSheets s c.args.flow p.0 p.1 x (flow_part s c.args.flow c.entries_of-corr.result.now) old new) (c.entries_of-exist.ensures ∙ ap es c.pipes_along.ensures) by_size in
     let put = subst (λ x. PutsSheets s c.args.flow p.0 p.1 (es (pipes_along p.0)) (flow_part s c.args.flow x) old new) (c.entries_of-corr.ensures ∙ ap es c.sheets_along.ensures) by_exist in

@@ -1,0 +1,15 @@
+use Rattle.std.proofs.Common.{rules, ◌∙◌, ap, ◌∷◌, [], List, ℕ, Bool}
+use Rattle.las_base.specs.declared.Cell.{Cell}
+use Rattle.grid_box.specs.PipeRules.{named_cells}
+use Rattle.grid_box.specs.CellTests.{breach_by}
+use Rattle.colour_rules.specs.declared.Rule.{Rule}
+use Rattle.colour_rules.specs.declared.Rule.TheVariants.{ColoursMatch, PortShowsZ}
+use Rattle.colour_rules.specs.Rules.{keeps}
+use Rattle.colour_rules.proofs.first_bad_colour.Goals as goal
+
+pub returns : goal.returns
+returns c =
+    let rule : Rule → Cell → Bool = λ r. keeps r c.args.job.now c.args.diagram.now in
+    let table : List (ℕ × Rule) = (7, ColoursMatch) ∷ (8, PortShowsZ) ∷ [] in
+    let found = c.first_breach.ensures rule (λ r cell answer near given. search rules) in
+    found ∙ ap (λ s. breach_by rule (named_cells s) table) (c.size.ensures.size ∙ c.requires)

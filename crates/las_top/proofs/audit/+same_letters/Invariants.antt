@@ -1,5 +1,0 @@
-use Rattle.std.proofs.Common.{length}
-use Rattle.las_top.proofs.audit.+same_letters.Given as goal
-
-abbrev pub decreases-same_letters : goal.decreases-same_letters
-decreases-same_letters l = length l.letters.now
