@@ -116,12 +116,12 @@ audited_exactly b l h =
     let unserved : Option (ℕ × Broken) = first_unserved l.task l.drawing l.surfaces 0 l.task.flows in
     let other : Answer = no_with (codes "other job\n") in (
       λ good.
-      let k = both_none (is_listed b l.task) (breach l.task l.drawing) unserved _ good in
-      (listed_where (is_listed b l.task) _ good, law.0 k.0, served l.task l.drawing l.surfaces k.1),
+          let k = both_none (is_listed b l.task) (breach l.task l.drawing) unserved _ good in
+          (listed_where (is_listed b l.task) _ good, law.0 k.0, served l.task l.drawing l.surfaces k.1),
       λ shown.
-      ap (λ x. (cond x (answer_to_breaches (breach l.task l.drawing) unserved) other).status) shown.0
-      ∙ ap (λ o. (answer_to_breaches o unserved).status) (law.1 shown.1)
-      ∙ ap (λ u. (answer_to_breaches None u).status) (all_served l.task l.drawing l.surfaces shown.2)
+          ap (λ x. (cond x (answer_to_breaches (breach l.task l.drawing) unserved) other).status) shown.0
+          ∙ ap (λ o. (answer_to_breaches o unserved).status) (law.1 shown.1)
+          ∙ ap (λ u. (answer_to_breaches None u).status) (all_served l.task l.drawing l.surfaces shown.2),
     )
   where
     listed_where : (listed : Bool) (a : Answer) → (cond listed a (no_with (codes "other job\n"))).status ≡ Good → listed ≡ true
@@ -143,11 +143,11 @@ shown_exactly l h =
     let law = no_breach_is_valid l.task l.drawing h.drawing_size in
     let unserved : Option (ℕ × Broken) = first_unserved l.task l.drawing l.surfaces 0 l.task.flows in (
       λ good.
-      let k = shown_none (breach l.task l.drawing) unserved (zx_text l) good in
-      (law.0 k.0, served l.task l.drawing l.surfaces k.1),
+          let k = shown_none (breach l.task l.drawing) unserved (zx_text l) good in
+          (law.0 k.0, served l.task l.drawing l.surfaces k.1),
       λ shown.
-      ap (λ o. (zx_by o unserved (zx_text l)).status) (law.1 shown.0)
-      ∙ ap (λ u. (zx_by None u (zx_text l)).status) (all_served l.task l.drawing l.surfaces shown.1)
+          ap (λ o. (zx_by o unserved (zx_text l)).status) (law.1 shown.0)
+          ∙ ap (λ u. (zx_by None u (zx_text l)).status) (all_served l.task l.drawing l.surfaces shown.1),
     )
 
 -- what is said of an answer is said of the bytes that it answers
