@@ -1,9 +1,9 @@
 -- Half of the lessons, of those that may go.
-use Rattle.std.proofs.Common.{◌≡◌, ℕ, zero, suc, ◌+◌, ◌-◌, ◌*◌, ◌/◌, ◌<◌, ◌≤◌, min, Bool, true, false, cond, ◌&&◌, nat_eq, List, [], ◌∷◌, ◌++◌, map, length, take, get_or, refl, sym, ap, ◌∙◌, subst, arith, inl, inr, length-take}
+use Rattle.std.proofs.Common.{◌≡◌, ℕ, zero, suc, ◌+◌, ◌/◌, ◌<◌, ◌≤◌, min, Bool, true, false, cond, ◌&&◌, nat_eq, List, [], ◌∷◌, ◌++◌, length, take, get_or, refl, sym, ap, ◌∙◌, subst, arith, inl, inr, length-take}
 use Rattle.std.specs.Prelude.{Result, Ok, Err, IfOk}
 use Rattle.std.specs.List.{filter, count_by, sum_by}
 use Rattle.std.specs.List.Sorted.{IsPermutation}
-use Rattle.std.proofs.lemmas.Bool.{and_parts, and_from, cases_eq, cases_lt, eq-eqb, ne_eqb}
+use Rattle.std.proofs.lemmas.Bool.{and_parts, and_from, cases_eq, cases_lt}
 use Rattle.std.proofs.lemmas.List.{append-nil, length-map, take_all}
 use Rattle.std.proofs.lemmas.List.Sums.{count_by_more_no, count_by_more_yes, length-filter, sum_by-cons}
 use Rattle.std.proofs.lemmas.List.Sorted.{length_permutation, sum_by-IsPermutation}
@@ -14,7 +14,7 @@ use Rattle.watch_lists.specs.Rows.{times}
 use Rattle.watch_lists.specs.Trails.{Seen}
 use Rattle.watch_lists.proofs.RowLemmas.{times-here, times-other}
 use Rattle.sat_core.specs.declared.worth.Idle.{Idle}
-use Rattle.sat_core.specs.Reducing.{AreChosen, AreIdle, clauses_of, is_idle, is_idle_lesson, is_lesson, lessons_in, places_of, short_lessons_in}
+use Rattle.sat_core.specs.Reducing.{AreChosen, AreIdle, clauses_of, is_idle, is_idle_lesson, is_lesson, lessons_in, places_of}
 use Rattle.sat_core.proofs.AmongLemmas.{Among}
 use Rattle.sat_core.proofs.PigeonLemmas.{Apart, among_passed, apart_filter}
 use Rattle.sat_core.proofs.GoLemmas.{some_at}

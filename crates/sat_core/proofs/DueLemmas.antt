@@ -1,10 +1,9 @@
 -- Along a log as many clauses are removed as are due, and none unlawfully.
-use Rattle.std.proofs.Common.{◌≡◌, ℕ, suc, ◌+◌, ◌≤◌, Bool, true, false, cond, List, [], ◌∷◌, ◌++◌, length, length-append, refl, sym, ap, ◌∙◌, subst, arith, inl, inr, ◌⊎◌, append_assoc}
-use Rattle.std.specs.List.{fold}
+use Rattle.std.proofs.Common.{◌≡◌, ℕ, suc, ◌+◌, ◌≤◌, true, false, List, [], ◌∷◌, ◌++◌, length, length-append, refl, sym, ap, ◌∙◌, subst, arith, inl, inr, ◌⊎◌}
 use Rattle.std.proofs.lemmas.Bool.{both_ways}
 use Rattle.std.proofs.lemmas.List.Sums.{fold-append}
 use Rattle.cnf_base.specs.Literals.{Clause, Cnf}
-use Rattle.cnf_base.specs.Logs.{LogStep, Add, Remove, LogState, additions, is_addition}
+use Rattle.cnf_base.specs.Logs.{LogStep, Add, Remove, additions, is_addition}
 use Rattle.cnf_base.specs.Lessons.{Along, Progress, IsLesson, IsReductionPlace, Reduces, RemovesDue, RemovesOnce, adds_more, begins_with_removal, progress_after, progress_at_start, removals_due}
 use Rattle.sat_core.specs.Standing.{log_state, log_progress, HasReduced, IsReduced}
 use Rattle.sat_core.specs.Outcomes.{MayRemove, RemovesLawfully}
@@ -74,9 +73,9 @@ reduced_behind_addition f ss id lits hints all end before i c h next later e pla
         λ due. absurd (end (ap (λ xs. (log_progress f xs).fresh) k.1 ∙ fresh_more f before (Add i c h)) (let P : ℕ → Type 0 = λ n. IsReductionPlace n in subst P (sym (ap additions k.1 ∙ additions_more before (Add i c h))) place) (let Q : List LogStep → Type 0 = λ xs. 1 ≤ removals_due f (log_state f xs) in subst Q (sym k.1) due))
     at (inr k) =
         λ due.
-            let was = all before i c h next k.0 (k.2 ∙ sym (cut_behind before (Add i c h) next k.0)) place due in
-            let P : List LogStep → Type 0 = λ xs. RemovesOnce (next ∷ xs) (removals_due f (log_state f (before ++ Add i c h ∷ []))) in
-            subst P (sym k.1) (once_more next k.0 id lits hints (removals_due f (log_state f (before ++ Add i c h ∷ []))) was)
+        let was = all before i c h next k.0 (k.2 ∙ sym (cut_behind before (Add i c h) next k.0)) place due in
+        let P : List LogStep → Type 0 = λ xs. RemovesOnce (next ∷ xs) (removals_due f (log_state f (before ++ Add i c h ∷ []))) in
+        subst P (sym k.1) (once_more next k.0 id lits hints (removals_due f (log_state f (before ++ Add i c h ∷ []))) was)
 
 -- a removal of as many clauses as are due, directly behind an addition
 pub reduced_behind_removal : (f : Cnf) (ss : List LogStep) (ids : List ℕ) → HasReduced f ss → (log_progress f ss).fresh ≡ true → removals_due f (log_state f ss) ≤ length ids → HasReduced f (ss ++ Remove ids ∷ [])
@@ -102,16 +101,16 @@ reduced_behind_removal f ss ids all fresh enough before i c h next later e place
     at : Cut → RemovesDue f (log_state f (before ++ Add i c h ∷ [])) (next ∷ later)
     at (inl k) =
         λ due.
-            let P : List LogStep → Type 0 = λ xs. RemovesOnce xs q in
-            let R : LogStep → Type 0 = λ s. RemovesOnce (s ∷ later) q in
-            let S : List LogStep → Type 0 = λ xs. RemovesOnce (Remove ids ∷ xs) q in
-            let here : RemovesOnce (Remove ids ∷ []) q = ((let z : removals_due f (log_state f ss) ≡ q = ap (λ xs. removals_due f (log_state f xs)) k.1 in omega arith), refl) in
-            subst R k.2 (subst S (sym k.0) here)
+        let P : List LogStep → Type 0 = λ xs. RemovesOnce xs q in
+        let R : LogStep → Type 0 = λ s. RemovesOnce (s ∷ later) q in
+        let S : List LogStep → Type 0 = λ xs. RemovesOnce (Remove ids ∷ xs) q in
+        let here : RemovesOnce (Remove ids ∷ []) q = ((let z : removals_due f (log_state f ss) ≡ q = ap (λ xs. removals_due f (log_state f xs)) k.1 in omega arith), refl) in
+        subst R k.2 (subst S (sym k.0) here)
     at (inr k) =
         λ due.
-            let was = all before i c h next k.0 (k.2 ∙ sym (cut_behind before (Add i c h) next k.0)) place due in
-            let P : List LogStep → Type 0 = λ xs. RemovesOnce (next ∷ xs) q in
-            subst P (sym k.1) (longer next k.0 k.2 was)
+        let was = all before i c h next k.0 (k.2 ∙ sym (cut_behind before (Add i c h) next k.0)) place due in
+        let P : List LogStep → Type 0 = λ xs. RemovesOnce (next ∷ xs) q in
+        subst P (sym k.1) (longer next k.0 k.2 was)
 
 pub nothing_due_behind_removal : (f : Cnf) (ss : List LogStep) (ids : List ℕ) → IsReduced f (ss ++ Remove ids ∷ [])
 nothing_due_behind_removal f ss ids fresh place due = both_ways (log_progress f (ss ++ Remove ids ∷ [])).fresh (fresh_more f ss (Remove ids)) fresh
@@ -136,8 +135,8 @@ reduces_at_end f ss id hints all before i c h later e place more = at (split_las
     at (inl k) = absurd (both_ways false refl (sym (ap adds_more k.0) ∙ more))
     at (inr k) =
         λ due.
-            let P : List LogStep → Type 0 = λ xs. RemovesOnce xs q in
-            subst P (sym k.1) (behind k.0 k.2 (sym (ap adds_more k.1) ∙ more) due)
+        let P : List LogStep → Type 0 = λ xs. RemovesOnce xs q in
+        subst P (sym k.1) (behind k.0 k.2 (sym (ap adds_more k.1) ∙ more) due)
 
 -- a log of lessons removes lawfully
 pub removes_lawfully : (n : ℕ) (p : Progress) (ss : List LogStep) → Along (IsLesson n) progress_after p ss → Along (MayRemove n) progress_after p ss

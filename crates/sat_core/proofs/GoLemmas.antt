@@ -1,6 +1,6 @@
 -- A clause that is no reason is let go, and the search is ready as before.
-use Rattle.std.proofs.Common.{◌≡◌, ℕ, zero, suc, ◌+◌, ◌<◌, ◌≤◌, Bool, true, false, cond, ◌&&◌, not, nat_eq, nat_lt, List, [], ◌∷◌, ◌++◌, length, take, drop, get_or, Option, Some, None, refl, sym, ap, ◌∙◌, subst, arith, inl, inr, ◌⊎◌}
-use Rattle.std.specs.List.{list_any, fold}
+use Rattle.std.proofs.Common.{◌≡◌, ℕ, zero, suc, ◌+◌, ◌<◌, ◌≤◌, Bool, true, false, cond, ◌&&◌, not, nat_eq, nat_lt, List, [], ◌∷◌, ◌++◌, length, take, drop, get_or, Option, Some, None, refl, sym, ap, ◌∙◌, subst, arith, inl, inr}
+use Rattle.std.specs.List.{list_any}
 use Rattle.std.proofs.lemmas.Bool.{and_parts, or_parts, or_cases, or_left, or_right, both_ways, eqb-true, eq-eqb, ne_eqb, ltb-true, not-true, false_from_ne_true}
 use Rattle.cnf_base.specs.declared.literal.Lit.{Lit}
 use Rattle.cnf_base.specs.Literals.{variable, same_lit, has_lit}
@@ -13,16 +13,16 @@ use Rattle.watch_lists.specs.declared.trail.Entry.{Entry}
 use Rattle.watch_lists.specs.Entries.{entry, entry_of, reason_of, is_assigned, true_by}
 use Rattle.watch_lists.specs.Rows.{times}
 use Rattle.watch_lists.specs.Trails.{Seen, IsTrail}
-use Rattle.watch_lists.specs.Fits.{Fits, attached_in, AreReasons, IsReason, IsNoReason, KeepsClauses}
+use Rattle.watch_lists.specs.Fits.{Fits, attached_in, AreReasons, IsNoReason, KeepsClauses}
 use Rattle.watch_lists.proofs.AssignLemmas.{fits_after_retire}
 use Rattle.sat_core.specs.declared.search.Search.{Search}
-use Rattle.sat_core.specs.Standing.{IsFact, IsPlaced, ArePlaced}
-use Rattle.sat_core.specs.Ready.{IsOrdered, IsReady}
+use Rattle.sat_core.specs.Standing.{IsPlaced, ArePlaced}
+use Rattle.sat_core.specs.Ready.{IsReady}
 use Rattle.sat_core.specs.Reducing.{leads_to, is_reason, is_idle, Loses, MayAllGo, places_of}
 use Rattle.sat_core.proofs.TrailLemmas.{PassesAt, any_at, at_any}
 use Rattle.sat_core.proofs.ReleaseLemmas.{entry_is}
 use Rattle.sat_core.proofs.GainLemmas.{ordered_on}
-use Rattle.sat_core.proofs.LoseLemmas.{keeps_without, loses_more, once_apart, once_rest, some_rest, some_first}
+use Rattle.sat_core.proofs.LoseLemmas.{loses_more, once_apart, once_rest, some_rest, some_first}
 
 -- a variable without a value has no reason
 pub reason_none : (es : List Entry) (v : ℕ) → is_assigned es v ≡ false → reason_of es v ≡ None
@@ -128,7 +128,7 @@ others_may_go t u cs ds r rest may loses entries = record {
   idle = λ x h. (
       let long : length (lits_of ds x) ≡ length (lits_of cs x) = loses.long x ∙ ap (λ (c : Live). length c.lits) (without-other cs r x (once_apart r x rest may.once h)) in
       ap (λ n. nat_lt 2 n && not (is_reason u.entries x)) long ∙ ap (λ es. nat_lt 2 (length (lits_of cs x)) && not (is_reason es x)) entries ∙ may.idle x (some_rest r x rest h)
-  );
+      );
   once = once_rest r rest may.once;
 }
 

@@ -1,10 +1,10 @@
 -- A log of lessons, and one step more.
-use Rattle.std.proofs.Common.{◌≡◌, ℕ, ◌+◌, ◌≤◌, true, List, [], ◌∷◌, ◌++◌, length, None, refl, sym, ap, ◌∙◌, subst, arith}
+use Rattle.std.proofs.Common.{◌≡◌, ℕ, ◌+◌, ◌≤◌, List, [], ◌∷◌, ◌++◌, length, None, refl, sym, ap, ◌∙◌, subst, arith}
 use Rattle.std.specs.List.{fold}
 use Rattle.cnf_base.specs.declared.literal.Lit.{Lit}
 use Rattle.cnf_base.specs.Literals.{Cnf}
 use Rattle.cnf_base.specs.Logs.{LogStep, Add, Remove, LogState, state_at_start, removal_fault, step_fault}
-use Rattle.cnf_base.specs.Lessons.{Progress, IsNew, IsRemoval, progress_after, progress_at_start, removals_due}
+use Rattle.cnf_base.specs.Lessons.{IsNew, IsRemoval, progress_after, progress_at_start, removals_due}
 use Rattle.sat_core.specs.Standing.{log_state, log_progress, next_id, IsLog, IsReduced}
 use Rattle.sat_core.proofs.StepLemmas.{passes_more, state_more, additions_more, lessons_more, progress_state}
 use Rattle.sat_core.proofs.DueLemmas.{reduced_at_start, reduced_behind_addition, reduced_behind_removal}

@@ -1,18 +1,17 @@
 -- Clauses that are let go, in the arena and in the log.
-use Rattle.std.proofs.Common.{◌≡◌, ◌≢◌, ℕ, suc, ◌+◌, ◌≤◌, Bool, true, false, cond, not, ◌||◌, nat_eq, List, [], ◌∷◌, ◌++◌, map, length, Option, Some, None, refl, sym, ap, ◌∙◌, subst, arith, inl, inr}
-use Rattle.std.specs.List.{filter, fold, list_any}
-use Rattle.std.proofs.lemmas.Bool.{both_ways, or_parts, eq-eqb, ne_eqb, eqb-true, cases_eq}
+use Rattle.std.proofs.Common.{◌≡◌, ℕ, suc, ◌≤◌, Bool, true, false, cond, not, ◌||◌, nat_eq, List, [], ◌∷◌, ◌++◌, map, length, Some, None, refl, sym, ap, ◌∙◌, subst, arith, inl, inr}
+use Rattle.std.specs.List.{filter, fold}
+use Rattle.std.proofs.lemmas.Bool.{both_ways, or_parts, eq-eqb, eqb-true, cases_eq}
 use Rattle.std.proofs.lemmas.List.Sums.{fold-append}
-use Rattle.cnf_base.specs.declared.literal.Lit.{Lit}
 use Rattle.cnf_base.specs.Literals.{Clause, has_lit}
 use Rattle.cnf_base.specs.Logs.{clause_of, removal_fault, is_live as is_logged, without as without_id}
-use Rattle.clause_arena.specs.Clauses.{Live, no_clause, clause_at, is_live, lits_of, id_of, without}
+use Rattle.clause_arena.specs.Clauses.{Live, no_clause, clause_at, is_live, id_of, without}
 use Rattle.clause_arena.proofs.Updates.{without-other, without-live, without-gone}
 use Rattle.watch_lists.specs.Rows.{times}
 use Rattle.watch_lists.specs.Fits.{KeepsClauses}
 use Rattle.watch_lists.proofs.RowLemmas.{times-here, times-other}
 use Rattle.watch_lists.proofs.ClauseLemmas.{keeps_both}
-use Rattle.conflict_learn.specs.Resolvents.{IsTwin, Mirrors}
+use Rattle.conflict_learn.specs.Resolvents.{Mirrors}
 use Rattle.conflict_learn.proofs.MirrorLemmas.{mirrors_what_is_left, mirrors_after_removal}
 use Rattle.sat_core.specs.Standing.{AreIdsApart, Covers, IsCovered}
 use Rattle.sat_core.specs.Reducing.{Loses, ids_in}

@@ -1,10 +1,9 @@
 -- What packing leaves of the search and of the clauses beside the log.
-use Rattle.std.proofs.Common.{◌≡◌, ℕ, Bool, true, false, ◌||◌, List, [], ◌∷◌, map, length, Option, Some, refl, sym, ap, ◌∙◌, subst, inl, inr, nat_eq}
-use Rattle.std.specs.List.{list_any}
+use Rattle.std.proofs.Common.{◌≡◌, ℕ, true, ◌||◌, List, [], ◌∷◌, map, Some, refl, sym, ap, ◌∙◌, subst, inl, inr, nat_eq}
 use Rattle.cnf_base.specs.declared.literal.Lit.{Lit}
 use Rattle.cnf_base.specs.Literals.{variable, has_lit, Clause}
 use Rattle.cnf_base.specs.Logs.{clause_of}
-use Rattle.clause_arena.specs.Clauses.{Live, clause_at, is_live, id_of, lits_of}
+use Rattle.clause_arena.specs.Clauses.{Live, is_live, id_of, lits_of}
 use Rattle.clause_arena.specs.Words.{clauses_in}
 use Rattle.clause_arena.specs.Packing.{Move, moves_of, packed_by}
 use Rattle.clause_arena.proofs.Packed.{Falls}
@@ -12,7 +11,7 @@ use Rattle.clause_arena.proofs.Moved.{put_at, packed_at, came_from, placed as na
 use Rattle.watch_lists.specs.declared.trail.Entry.{Entry}
 use Rattle.watch_lists.specs.Entries.{is_assigned, true_by}
 use Rattle.watch_lists.specs.Trails.{Seen}
-use Rattle.watch_lists.specs.Fits.{Fits, attached_in}
+use Rattle.watch_lists.specs.Fits.{Fits}
 use Rattle.watch_lists.specs.Moving.{KeepsAttached, moved_entry, moved_trail}
 use Rattle.conflict_learn.specs.Resolvents.{IsTwin}
 use Rattle.sat_core.specs.declared.search.Search.{Search}

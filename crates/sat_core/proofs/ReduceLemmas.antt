@@ -1,12 +1,12 @@
 -- The log behind a reduction.
-use Rattle.std.proofs.Common.{◌≡◌, ℕ, suc, ◌+◌, ◌-◌, ◌*◌, ◌/◌, ◌<◌, ◌≤◌, min, Bool, true, false, ◌&&◌, nat_lt, List, [], ◌∷◌, ◌++◌, map, length, Option, Some, None, refl, sym, ap, ◌∙◌, subst, arith, zero-add}
+use Rattle.std.proofs.Common.{◌≡◌, ℕ, ◌<◌, ◌≤◌, Bool, true, nat_lt, List, [], ◌∷◌, ◌++◌, length, Option, Some, refl, sym, ap, ◌∙◌, subst, arith, zero-add}
 use Rattle.std.specs.Option.{IfSome}
 use Rattle.std.specs.List.{list_all, fold}
-use Rattle.std.proofs.lemmas.Bool.{and_from, lt-ltb, ltb-true}
+use Rattle.std.proofs.lemmas.Bool.{and_from, lt-ltb}
 use Rattle.std.proofs.lemmas.List.{length-map}
-use Rattle.cnf_base.specs.Literals.{Clause, Cnf}
+use Rattle.cnf_base.specs.Literals.{Cnf}
 use Rattle.cnf_base.specs.Logs.{LogStep, Remove, LogState, additions, clause_of, without as without_id}
-use Rattle.cnf_base.specs.Lessons.{IsReductionPlace, Progress, is_long, live_additions, progress_at_start, removals_due}
+use Rattle.cnf_base.specs.Lessons.{IsReductionPlace, is_long, live_additions, progress_at_start, removals_due}
 use Rattle.cnf_base.specs.Takes.{are_ids}
 use Rattle.clause_arena.specs.declared.ClauseRef.{ClauseRef}
 use Rattle.clause_arena.specs.Clauses.{Live, is_live, id_of, lits_of, without}
@@ -15,8 +15,8 @@ use Rattle.clause_arena.proofs.Packed.{Falls}
 use Rattle.watch_lists.specs.Rows.{times}
 use Rattle.watch_lists.specs.Trails.{Seen}
 use Rattle.watch_lists.specs.Fits.{Fits}
-use Rattle.sat_core.specs.Standing.{log_state, log_progress, AreTold, ArePlaced, HoldsLog, HoldsLesson, HoldsReduced, MirrorsLog, IsReduced}
-use Rattle.sat_core.specs.Reducing.{AreChosen, Loses, ids_in, is_lesson, places_of}
+use Rattle.sat_core.specs.Standing.{log_state, log_progress, ArePlaced, HoldsLog, HoldsLesson, HoldsReduced, MirrorsLog}
+use Rattle.sat_core.specs.Reducing.{AreChosen, Loses, ids_in, places_of}
 use Rattle.sat_core.proofs.RiseLemmas.{rises_whole, named_within}
 use Rattle.sat_core.proofs.StepLemmas.{state_more, progress_state, progress_added}
 use Rattle.sat_core.proofs.DueLemmas.{nothing_due_behind_removal}

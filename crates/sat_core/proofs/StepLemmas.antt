@@ -1,11 +1,10 @@
 -- What one more step does to a log of lessons.
-use Rattle.std.proofs.Common.{◌≡◌, ℕ, suc, ◌+◌, ◌<◌, Bool, true, false, cond, nat_eq, List, [], ◌∷◌, ◌++◌, length, Option, Some, None, refl, sym, ap, ◌∙◌, subst, arith, zero-add}
+use Rattle.std.proofs.Common.{◌≡◌, ℕ, suc, ◌+◌, ◌<◌, Bool, true, false, cond, nat_eq, List, [], ◌∷◌, ◌++◌, length, Option, Some, None, refl, ap, ◌∙◌, arith, zero-add}
 use Rattle.std.specs.List.{fold}
 use Rattle.std.proofs.lemmas.List.Sums.{fold-append, sum_by-append, sum_by-cons}
-use Rattle.cnf_base.specs.declared.literal.Lit.{Lit}
 use Rattle.cnf_base.specs.Literals.{Clause, Cnf}
 use Rattle.cnf_base.specs.Logs.{LogStep, Add, Remove, LogState, LogEnd, state_at_start, clause_of, step_fault, after_step, adds_empty_clause, PassesFrom, IsWhole, IsAccepted, at_fault, log_fault, additions, is_addition}
-use Rattle.cnf_base.specs.Lessons.{Along, Progress, IsNew, IsLesson, progress_after, progress_at_start}
+use Rattle.cnf_base.specs.Lessons.{Along, Progress, IsLesson, progress_after, progress_at_start}
 use Rattle.cnf_base.proofs.LessonLemmas.{lessons_join}
 use Rattle.sat_core.specs.Standing.{log_state, IsLog}
 use Rattle.sat_core.proofs.RiseLemmas.{rises_whole, named_within}

@@ -1,14 +1,13 @@
 -- As many lessons live in the arena as in the log, and all but the short ones and the reasons may go.
-use Rattle.std.proofs.Common.{◌≡◌, ℕ, suc, ◌+◌, ◌/◌, ◌<◌, ◌≤◌, Bool, true, false, cond, ◌&&◌, not, nat_eq, nat_lt, nat_le, List, [], ◌∷◌, ◌++◌, map, length, Option, Some, None, refl, sym, ap, ◌∙◌, subst, arith, inl, inr, ◌⊎◌}
+use Rattle.std.proofs.Common.{◌≡◌, ℕ, suc, ◌+◌, ◌/◌, ◌<◌, ◌≤◌, Bool, true, false, cond, ◌&&◌, not, nat_eq, nat_lt, nat_le, List, [], ◌∷◌, ◌++◌, map, length, Option, Some, None, refl, sym, ap, ◌∙◌, arith, inl, inr}
 use Rattle.std.specs.List.{AllByRecursion, filter, fold, list_any, count_by, enumerate_from}
 use Rattle.std.proofs.lemmas.Bool.{and_parts, and_from, or_cases, or_left, or_right, both_ways, not-true, eqb-true, eq-eqb, ne_eqb, ltb-true, lt-ltb, leb-true, le-leb, cases_lt}
 use Rattle.std.proofs.lemmas.List.{length-map}
 use Rattle.std.proofs.lemmas.List.Sums.{length-filter, sum_by-cons}
 use Rattle.cnf_base.specs.declared.literal.Lit.{Lit}
 use Rattle.cnf_base.specs.Literals.{variable, has_lit, same_lit, Clause, Cnf}
-use Rattle.cnf_base.specs.Logs.{LogStep, Add, Remove, LogState, clause_of, without, distinct_vars, step_fault, after_step, state_at_start, PassesFrom, IsWhole}
+use Rattle.cnf_base.specs.Logs.{LogStep, Add, Remove, LogState, clause_of, without, distinct_vars, after_step, state_at_start, PassesFrom, IsWhole}
 use Rattle.cnf_base.specs.Lessons.{live_additions, short_additions}
-use Rattle.cnf_base.proofs.Closed.{same_lit-is}
 use Rattle.clause_arena.specs.declared.ClauseRef.{ClauseRef}
 use Rattle.clause_arena.specs.Clauses.{Live, is_live, id_of, lits_of, places}
 use Rattle.clause_arena.proofs.Packed.{Falls}
@@ -18,10 +17,10 @@ use Rattle.watch_lists.specs.Trails.{Seen}
 use Rattle.watch_lists.specs.Fits.{IsClause}
 use Rattle.sat_core.specs.Standing.{log_state, AreIdsApart}
 use Rattle.sat_core.specs.Intake.{numbers_of}
-use Rattle.sat_core.specs.Reducing.{leads_to, is_reason, is_idle, is_lesson, is_short_lesson, is_idle_lesson, lessons_in, short_lessons_in}
+use Rattle.sat_core.specs.Reducing.{leads_to, is_reason, is_lesson, is_short_lesson, is_idle_lesson, lessons_in, short_lessons_in}
 use Rattle.sat_core.proofs.AmongLemmas.{Among, among_filter}
 use Rattle.sat_core.proofs.OnceLemmas.{number_in}
-use Rattle.sat_core.proofs.RiseLemmas.{RisesTo, add_passes, rises_whole}
+use Rattle.sat_core.proofs.RiseLemmas.{RisesTo, add_passes}
 use Rattle.sat_core.proofs.PigeonLemmas.{Apart, no_more, among_passed, apart_filter, key_among}
 use Rattle.sat_core.proofs.LoseLemmas.{AreAlike}
 

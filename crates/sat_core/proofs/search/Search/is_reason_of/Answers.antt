@@ -1,4 +1,4 @@
-use Rattle.std.proofs.Common.{◌≡◌, is_some, true, false, not, sym, ap, ◌∙◌}
+use Rattle.std.proofs.Common.{◌≡◌, is_some, false, not, sym, ap, ◌∙◌}
 use Rattle.cnf_base.specs.Literals.{plain}
 use Rattle.watch_lists.specs.Entries.{value_in, is_assigned}
 use Rattle.decide_order.proofs.ValueLemmas.{value_of_plain}

@@ -1,7 +1,6 @@
-use Rattle.std.proofs.Common.{get_or, refl, sym, arith}
+use Rattle.std.proofs.Common.{refl}
 use Rattle.clause_arena.specs.Words.{clauses_in}
 use Rattle.watch_lists.proofs.ClauseLemmas.{keeps_same}
-use Rattle.sat_core.specs.Reducing.{places_of}
 use Rattle.sat_core.proofs.GoLemmas.{first_may_go, goes_on, all_gone}
 use Rattle.sat_core.proofs.search.Search.let_all_go.Goals as goal
 

@@ -1,4 +1,4 @@
-use Rattle.std.proofs.Common.{◌≡◌, List, refl, sym, ap, ◌∙◌}
+use Rattle.std.proofs.Common.{List, refl, sym, ap, ◌∙◌}
 use Rattle.clause_arena.specs.Words.{clauses_in}
 use Rattle.clause_arena.specs.Packing.{Move, packed_by}
 use Rattle.clause_arena.proofs.Packed.{falls_in}
