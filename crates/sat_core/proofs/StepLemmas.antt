@@ -1,13 +1,12 @@
 -- What one more step does to a log of lessons.
-use Rattle.std.proofs.Common.{◌≡◌, ℕ, suc, ◌+◌, ◌<◌, Bool, true, false, cond, nat_eq, List, [], ◌∷◌, ◌++◌, length, Option, Some, None, refl, sym, ap, ◌∙◌, subst, arith, zero-add}
+use Rattle.std.proofs.Common.{◌≡◌, ℕ, suc, ◌+◌, ◌<◌, Bool, true, false, cond, nat_eq, List, [], ◌∷◌, ◌++◌, length, Option, Some, None, refl, ap, ◌∙◌, arith, zero-add}
 use Rattle.std.specs.List.{fold}
 use Rattle.std.proofs.lemmas.List.Sums.{fold-append, sum_by-append, sum_by-cons}
-use Rattle.cnf_base.specs.declared.literal.Lit.{Lit}
 use Rattle.cnf_base.specs.Literals.{Clause, Cnf}
 use Rattle.cnf_base.specs.Logs.{LogStep, Add, Remove, LogState, LogEnd, state_at_start, clause_of, step_fault, after_step, adds_empty_clause, PassesFrom, IsWhole, IsAccepted, at_fault, log_fault, additions, is_addition}
-use Rattle.cnf_base.specs.Lessons.{Along, Progress, IsNew, IsLesson, progress_after, progress_at_start}
+use Rattle.cnf_base.specs.Lessons.{Along, Progress, IsLesson, progress_after, progress_at_start}
 use Rattle.cnf_base.proofs.LessonLemmas.{lessons_join}
-use Rattle.sat_core.specs.Standing.{log_state, next_id, IsLog}
+use Rattle.sat_core.specs.Standing.{log_state, IsLog}
 use Rattle.sat_core.proofs.RiseLemmas.{rises_whole, named_within}
 
 -- the steps and one more pass
@@ -50,24 +49,6 @@ progress_added p (s ∷ ss) =
 
 pub lessons_more : (f : Cnf) (ss : List LogStep) (s : LogStep) → Along (IsLesson (length f.clauses)) progress_after (progress_at_start f) ss → IsLesson (length f.clauses) (fold progress_after (progress_at_start f) ss) s → Along (IsLesson (length f.clauses)) progress_after (progress_at_start f) (ss ++ s ∷ [])
 lessons_more f ss s a l = (lessons_join f (progress_at_start f) ss (s ∷ [])).1 (a, (l, tt))
-
--- a log of lessons before its first step
-pub log_begins : (f : Cnf) → IsLog f [] 0
-log_begins f = record { whole = tt; lessons = tt; count = refl; last = omega arith }
-
--- a lesson more
-pub log_more : (f : Cnf) (ss : List LogStep) (added : ℕ) (first : Lit) (others : List Lit) (hints : List ℕ) → IsLog f ss added → step_fault f.vars (log_state f ss) (Add (next_id f added) (first ∷ others) hints) ≡ None → IsNew (log_state f ss) (first ∷ others) hints → IsLog f (ss ++ Add (next_id f added) (first ∷ others) hints ∷ []) (added + 1)
-log_more f ss added first others hints log passes new = record {
-  whole = passes_more f.vars (state_at_start f) ss (Add (next_id f added) (first ∷ others) hints) log.whole passes refl;
-  lessons = lessons_more f ss (Add (next_id f added) (first ∷ others) hints) log.lessons at_end;
-  count = additions_more ss (Add (next_id f added) (first ∷ others) hints) ∙ ap (λ n. n + 1) log.count;
-  last = ap (λ (s : LogState). s.last) (state_more f ss (Add (next_id f added) (first ∷ others) hints)) ∙ (let e : length f.clauses + added + 1 ≡ length f.clauses + (added + 1) = omega arith in e);
-}
-  where
-    at_end : IsNew (fold progress_after (progress_at_start f) ss).state (first ∷ others) hints
-    at_end =
-        let P : LogState → Type 0 = λ s. IsNew s (first ∷ others) hints in
-        subst P (sym (progress_state (progress_at_start f) ss)) new
 
 -- where a clause is put behind others, an id names what it named, or else the new one
 pub named_old : (es : List (ℕ × Clause)) (id x : ℕ) (lits c : Clause) → clause_of es x ≡ Some c → clause_of (es ++ (id, lits) ∷ []) x ≡ Some c

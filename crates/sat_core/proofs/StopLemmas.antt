@@ -1,6 +1,6 @@
 -- What unit steps over the formula alone force.
 use Rattle.std.specs.Prelude.{Result, Ok, Err, IfOk}
-use Rattle.std.proofs.Common.{◌≡◌, ℕ, ◌≤◌, List, Option, ap, arith}
+use Rattle.std.proofs.Common.{ℕ, ◌≤◌, List, Option, ap, arith}
 use Rattle.cnf_base.specs.Literals.{Cnf, values_of}
 use Rattle.cnf_base.specs.Logs.{LogStep}
 use Rattle.sat_core.specs.declared.outcome.Outcome.{Outcome}
