@@ -1,7 +1,6 @@
 -- What a sweep leaves that was broken off.
-use Rattle.std.proofs.Common.{◌≡◌, ℕ, ◌+◌, ◌<◌, Bool, true, false, ◌||◌, List, [], ◌∷◌, ◌++◌, map, take, drop, get_or, length, Option, Some, None, IfSome, IsSomeAnd, refl, sym, ap, ◌∙◌, subst, inl, inr, append-nil}
-use Rattle.std.specs.List.{AllByRecursion, list_any}
-use Rattle.std.specs.Io.KnownBytes.{Appends}
+use Rattle.std.proofs.Common.{◌≡◌, ℕ, ◌+◌, ◌<◌, Bool, true, false, ◌||◌, List, [], ◌∷◌, ◌++◌, map, take, drop, get_or, length, Option, Some, None, refl, sym, ap, ◌∙◌, subst, inl, inr, append-nil}
+use Rattle.std.specs.List.{AllByRecursion}
 use Rattle.std.proofs.lemmas.Bool.{or_parts}
 use Rattle.std.proofs.lemmas.List.{map-append, drop_more, take-append-drop}
 use Rattle.las_base.specs.declared.Size.{Size}
@@ -13,14 +12,13 @@ use Rattle.las_spec.specs.Briefs.{Brief, IsBrief, job_of}
 use Rattle.box_sweep.specs.declared.ending.Ending.{Ending}
 use Rattle.box_sweep.specs.Lines.{ending_line, is_found, log_name}
 use Rattle.box_sweep.specs.Logged.{IsTrueBox}
-use Rattle.box_sweep.specs.Partial.{HasItsWord, IsBrokenBox, IsBrokenOff, IsInWork, IsLogInPart, LeavesFiles, LeavesLog, first_box, lines_so_far}
+use Rattle.box_sweep.specs.Partial.{HasItsWord, IsBrokenBox, IsBrokenOff, IsInWork, IsLogInPart, LeavesFiles, LeavesLog, lines_so_far}
 use Rattle.box_sweep.specs.Solutions.{SolvesInSheets}
-use Rattle.box_sweep.specs.Sweeps.{AreTried, AreTrue, HasTriedAll, IsLogOf, IsSoFar, OtherFilesStay, Tried, box_at, boxes_in_order, by_found, document_of, documents, ending_of, has_found, last_box, tried_line, tried_lines}
-use Rattle.box_sweep.specs.Verdicts.{BoxWord, Undecided}
-use Rattle.box_sweep.proofs.FileLemmas.{told_through}
+use Rattle.box_sweep.specs.Sweeps.{AreTried, HasTriedAll, IsLogOf, IsSoFar, OtherFilesStay, Tried, box_at, boxes_in_order, by_found, document_of, documents, ending_of, has_found, last_box, tried_line, tried_lines}
+use Rattle.box_sweep.specs.Verdicts.{Undecided}
 use Rattle.box_sweep.proofs.Fronts.{front_behind, front_of_all, front_of_more, front_of_nothing}
 use Rattle.box_sweep.proofs.OrderLemmas.{next_is_apart}
-use Rattle.box_sweep.proofs.SweepLemmas.{all_push, any_push, files_same, found_order, others_pushed, push_text, since_first, so_far_begins, still_all}
+use Rattle.box_sweep.proofs.SweepLemmas.{all_push, any_push, found_order, others_pushed, push_text, since_first, so_far_begins, still_all}
 
 -- ---- the boxes that have no word yet
 

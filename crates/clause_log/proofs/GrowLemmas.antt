@@ -8,7 +8,7 @@ use Rattle.cnf_base.specs.declared.traits.LogBad.{LogBad}
 use Rattle.cnf_base.specs.declared.traits.LogBad.TheVariants.{Fault, Memory}
 use Rattle.clause_log.specs.LogText.{step_text}
 use Rattle.clause_log.specs.LogFiles.{OthersAreLeft, Writes, are_writable, as_io, is_writable}
-use Rattle.clause_log.specs.Growing.{AreLines, BegunGoesOn, GoesOn, begun_goes_on_itself, no_lines}
+use Rattle.clause_log.specs.Growing.{AreLines, BegunGoesOn, GoesOn, begun_goes_on_itself}
 
 module _ (number : ℕ) (s : LogStep) (fits : number < 2 ^ 64) (good : is_writable s ≡ true) where
   one_fits : are_writable ((number, s) ∷ []) ≡ true

@@ -24,10 +24,10 @@ returns-in-Ok-clause-at_shelf g c = λ is. record {
 
 pub returns-in-Ok-clause-at_memory : goal.returns-in-Ok-clause-at_memory
 returns-in-Ok-clause-at_memory g c = λ is. elim (c.obey.ensures.at_memory is) [
-    inl untouched ↦ inl untouched
+  | inl untouched ↦ inl untouched
   | inr left ↦ inr (record {
-      command = Some c.in-Ok.command;
-      asked = c.in-Ok.ensures.form;
-      left = left;
-    })
+    command = Some c.in-Ok.command;
+    asked = c.in-Ok.ensures.form;
+    left = left;
+  })
 ]
