@@ -33,20 +33,20 @@ still_true t budget word name files mid after apart is others = record {
   is_true = is.is_true;
 }
 
-still_all : (b : Brief) (budget : ℕ) (name : List ℕ) (files mid after : Option (List File)) (tried : List Tried) → AllByRecursion (λ x. log_name x.box ≡ name → ⊥) tried → AreTrue SolvesInSheets b budget tried files mid → Told (OthersStay name) mid after → AreTrue SolvesInSheets b budget tried files after
+pub still_all : (b : Brief) (budget : ℕ) (name : List ℕ) (files mid after : Option (List File)) (tried : List Tried) → AllByRecursion (λ x. log_name x.box ≡ name → ⊥) tried → AreTrue SolvesInSheets b budget tried files mid → Told (OthersStay name) mid after → AreTrue SolvesInSheets b budget tried files after
 still_all b budget name files mid after [] apart are others = tt
 still_all b budget name files mid after (x ∷ xs) apart are others =
     (still_true (job_of b x.box) budget x.word name files mid after apart.0 are.0 others, still_all b budget name files mid after xs apart.1 are.1 others)
 
 -- a word that is true since its box was begun is true since the sweep was
-since_first : (t : Task) (budget : ℕ) (word : BoxWord) (P : List File → List File → Type 0) (files mid after : Option (List File)) → Told P files mid → IsTrueBox SolvesInSheets t budget word mid after → IsTrueBox SolvesInSheets t budget word files after
+pub since_first : (t : Task) (budget : ℕ) (word : BoxWord) (P : List File → List File → Type 0) (files mid after : Option (List File)) → Told P files mid → IsTrueBox SolvesInSheets t budget word mid after → IsTrueBox SolvesInSheets t budget word files after
 since_first t budget word P files mid after told is = record {
   steps = is.steps;
   logged = told_through P (λ _ fs. HasLog (log_name t.size) is.steps fs) (λ _ fs. HasLog (log_name t.size) is.steps fs) files mid after (λ xs ys zs p has. has) told is.logged;
   is_true = is.is_true;
 }
 
-all_push : {X : Type 0} (P : X → Type 0) (xs : List X) (x : X) → AllByRecursion P xs → P x → AllByRecursion P (xs ++ x ∷ [])
+pub all_push : {X : Type 0} (P : X → Type 0) (xs : List X) (x : X) → AllByRecursion P xs → P x → AllByRecursion P (xs ++ x ∷ [])
 all_push P [] x ps p = (p, tt)
 all_push P (y ∷ ys) x ps p = (ps.0, all_push P ys x ps.1 p)
 
@@ -60,21 +60,28 @@ log_added : (xs : List Tried) (x : Tried) (name : List ℕ) → log_name x.box �
 log_added [] x name e = inl e
 log_added (y ∷ ys) x name e = inr (log_added ys x name e)
 
-others_pushed : (xs : List Tried) (x : Tried) (files mid after : Option (List File)) → Told (OtherFilesStay xs) files mid → Told (OthersStay (log_name x.box)) mid after → Told (OtherFilesStay (xs ++ x ∷ [])) files after
+pub others_pushed : (xs : List Tried) (x : Tried) (files mid after : Option (List File)) → Told (OtherFilesStay xs) files mid → Told (OthersStay (log_name x.box)) mid after → Told (OtherFilesStay (xs ++ x ∷ [])) files after
 others_pushed xs x files mid after first then = told_through (OtherFilesStay xs) (OthersStay (log_name x.box)) (OtherFilesStay (xs ++ x ∷ [])) files mid after
     (λ fs gs hs p q name other. q name (λ e. other (log_added xs x name (sym e))) ∙ p name (λ is. other (log_kept xs x name is))) first then
 
 -- ---- one box more
 
-push_text : {X : Type 0} (f : X → List ℕ) (xs : List X) (x : X) → flat_map f xs ++ f x ≡ flat_map f (xs ++ x ∷ [])
+pub push_text : {X : Type 0} (f : X → List ℕ) (xs : List X) (x : X) → flat_map f xs ++ f x ≡ flat_map f (xs ++ x ∷ [])
 push_text f xs x = ap (λ t. flat_map f xs ++ t) (sym (append-nil (f x))) ∙ sym (flat_map-append f xs (x ∷ []))
 
-any_push : {X : Type 0} (q : X → Bool) (xs : List X) (x : X) → list_any q (xs ++ x ∷ []) ≡ (list_any q xs || q x)
+pub any_push : {X : Type 0} (q : X → Bool) (xs : List X) (x : X) → list_any q (xs ++ x ∷ []) ≡ (list_any q xs || q x)
 any_push q xs x = list_any-append q xs (x ∷ []) ∙ ap (λ r. list_any q xs || r) (or_false (q x))
   where
     or_false : (b : Bool) → (b || false) ≡ b
     or_false true = refl
     or_false false = refl
+
+-- boxes behind one that is found are not tried
+pub found_order : (xs : List Tried) (x : Tried) (rest : List Size) → has_found xs ≡ false → is_found x.word ≡ true → AreTried (map (λ y. y.box) xs ++ x.box ∷ rest) (xs ++ x ∷ [])
+found_order [] x rest none is = let nothing : List Tried = [] in (refl, subst (λ f. by_found f (nothing ≡ []) (AreTried rest [])) (sym is) refl)
+found_order (y ∷ ys) x rest none is =
+    let p = or_parts (is_found y.word) (has_found ys) none in
+    (refl, subst (λ f. by_found f (ys ++ x ∷ [] ≡ []) (AreTried (map (λ y. y.box) ys ++ x.box ∷ rest) (ys ++ x ∷ []))) (sym p.0) (found_order ys x rest p.1 is))
 
 -- the last line names no box where none is found
 no_box : (u : Bool) (s t : Size) → ending_line (ending_by false u) s ≡ ending_line (ending_by false u) t
@@ -133,7 +140,7 @@ module _ (b : Brief) (budget n : ℕ) (undecided : Bool) (word : BoxWord) (files
       let undecided_is : has_undecided (s.tried ++ x ∷ []) ≡ undecided = any_push (λ y. is_undecided y.word) s.tried x ∙ ap (λ r. r || is_undecided word) s.undecided_is ∙ decided undecided word is in
       record {
         tried = s.tried ++ x ∷ [];
-        in_order = subst (λ bs. AreTried bs (s.tried ++ x ∷ [])) (sym (order_is h s)) (found_at s.tried x (map (box_at b) (drop (n + 1) (sweep_order b.boxes))) s.none_found is);
+        in_order = subst (λ bs. AreTried bs (s.tried ++ x ∷ [])) (sym (order_is h s)) (found_order s.tried x (map (box_at b) (drop (n + 1) (sweep_order b.boxes))) s.none_found is);
         are_true = more.are_true;
         others_stay = more.others_stay;
         printed = more.printed;
@@ -151,12 +158,6 @@ module _ (b : Brief) (budget n : ℕ) (undecided : Bool) (word : BoxWord) (files
       last_pushed : (s : Size) (xs : List Tried) (x : Tried) → last_box s (xs ++ x ∷ []) ≡ x.box
       last_pushed s [] x = refl
       last_pushed s (y ∷ ys) x = last_pushed y.box ys x
-
-      found_at : (xs : List Tried) (x : Tried) (rest : List Size) → has_found xs ≡ false → is_found x.word ≡ true → AreTried (map (λ y. y.box) xs ++ x.box ∷ rest) (xs ++ x ∷ [])
-      found_at [] x rest none is = let nothing : List Tried = [] in (refl, subst (λ f. by_found f (nothing ≡ []) (AreTried rest [])) (sym is) refl)
-      found_at (y ∷ ys) x rest none is =
-          let p = or_parts (is_found y.word) (has_found ys) none in
-          (refl, subst (λ f. by_found f (ys ++ x ∷ [] ≡ []) (AreTried (map (λ y. y.box) ys ++ x.box ∷ rest) (ys ++ x ∷ []))) (sym p.0) (found_at ys x rest p.1 is))
 
       order_is : n < length (sweep_order b.boxes) → (s : IsSoFar b budget n undecided files mid out out1 err err1) → boxes_in_order b ≡ map (λ y. y.box) s.tried ++ box_at b (get_or (sweep_order b.boxes) n 0) ∷ map (box_at b) (drop (n + 1) (sweep_order b.boxes))
       order_is h s =
@@ -184,7 +185,7 @@ none_is_found b budget n undecided files after out out2 err err2 n_is last s = r
         (refl, subst (λ f. by_found f (ys ≡ []) (AreTried (map (λ y. y.box) ys) ys)) (sym p.0) (all_at ys p.1))
 
 -- no box was tried
-files_same : (files : Option (List File)) → Told (OtherFilesStay []) files files
+pub files_same : (files : Option (List File)) → Told (OtherFilesStay []) files files
 files_same None = tt
 files_same (Some fs) = λ name other. refl
 

@@ -1,9 +1,10 @@
 //! A specification, swept: its boxes by volume, up to the first that is found.
-ghost use Rattle.std.specs.Prelude.{◌≡◌, ◌≤◌, ◌<◌, None, IfOk, IsErrOf, OnOk, length};
+ghost use Rattle.std.specs.Prelude.{◌≡◌, ◌≤◌, ◌<◌, None, IfOk, IsErrOf, OnErr, OnOk, length};
 ghost use Rattle.las_base.specs.declared.Size.{Size};
 ghost use Rattle.las_spec.specs.Boxes.{sweep_order};
 ghost use Rattle.las_spec.specs.Briefs.{IsBrief, job_of};
 ghost use Rattle.box_sweep.specs.Lines.{box_line, ending_line};
+ghost use Rattle.box_sweep.specs.Partial.{IsBrokenBox, IsBrokenOff};
 ghost use Rattle.box_sweep.specs.Refusals.{HasSweepCause, HasWritten};
 ghost use Rattle.box_sweep.specs.Solutions.{SolvesInSheets};
 ghost use Rattle.box_sweep.specs.Sweeps.{HasSwept, HasTried, HasTriedAll, box_at, document_of};
@@ -88,6 +89,7 @@ fn try_box<K: Sink, E: Sink, H: Shelf>(
     requires high { budget ≤ 10000000 }
     requires none_begun { H.begun_name shelf.old ≡ None }
     ensures tried { IfOk result (λ verdict. HasTried job.now budget (word_of job.now verdict) (H.files shelf.old) (H.files shelf.new) (K.held out.old) (K.held out.new) (E.held err.old) (E.held err.new)) }
+    ensures broken_off { OnErr result (IsBrokenBox job.now budget (H.files shelf.old) (H.files shelf.new) (K.held out.old) (K.held out.new) (E.held err.old) (E.held err.new)) }
     ensures ended { OnOk result (H.begun_name shelf.new ≡ None) }
     ensures ended_at_write { IsErrOf result SweepRefused.WriteFault → H.begun_name shelf.new ≡ None }
     ensures cause { HasSweepCause (K.faults out.old) (K.faults out.new) (E.faults err.old) (E.faults err.new) (H.faults shelf.old) (H.faults shelf.new) result }
@@ -113,6 +115,7 @@ fn try_boxes<K: Sink, E: Sink, H: Shelf>(
     requires high { budget ≤ 10000000 }
     requires none_begun { H.begun_name shelf.old ≡ None }
     ensures tried { IfOk result (λ end. HasTriedAll spec.now budget (H.files shelf.old) (H.files shelf.new) (K.held out.old) (K.held out.new) (E.held err.old) (E.held err.new) end.0 end.1) }
+    ensures broken_off { OnErr result (IsBrokenOff SolvesInSheets spec.now budget (H.files shelf.old) (H.files shelf.new) (K.held out.old) (K.held out.new) (E.held err.old) (E.held err.new)) }
     ensures ended { OnOk result (H.begun_name shelf.new ≡ None) }
     ensures ended_at_write { IsErrOf result SweepRefused.WriteFault → H.begun_name shelf.new ≡ None }
     ensures cause { HasSweepCause (K.faults out.old) (K.faults out.new) (E.faults err.old) (E.faults err.new) (H.faults shelf.old) (H.faults shelf.new) result }
@@ -145,6 +148,10 @@ pub fn sweep<K: Sink, E: Sink, H: Shelf>(
     requires high { budget ≤ 10000000 }
     requires none_begun { H.begun_name shelf.old ≡ None }
     ensures swept { IfOk result (λ ending. HasSwept SolvesInSheets spec.now budget (H.files shelf.old) (H.files shelf.new) (K.held out.old) (K.held out.new) (E.held err.old) (E.held err.new) ending) }
+
+    // After a fault, or without memory, what was said is a front of a report whose lines are true, and what was printed
+    // a front of a diagram's document that solves.
+    ensures broken_off { OnErr result (IsBrokenOff SolvesInSheets spec.now budget (H.files shelf.old) (H.files shelf.new) (K.held out.old) (K.held out.new) (E.held err.old) (E.held err.new)) }
     ensures ended { OnOk result (H.begun_name shelf.new ≡ None) }
     ensures ended_at_write { IsErrOf result SweepRefused.WriteFault → H.begun_name shelf.new ≡ None }
     ensures cause { HasSweepCause (K.faults out.old) (K.faults out.new) (E.faults err.old) (E.faults err.new) (H.faults shelf.old) (H.faults shelf.new) result }

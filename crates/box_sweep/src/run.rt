@@ -5,6 +5,7 @@ ghost use Rattle.las_io.specs.Shelves.{File, OthersStay, Told};
 ghost use Rattle.clause_log.specs.LogFiles.{OthersAreLeft};
 ghost use Rattle.box_sweep.specs.Lines.{log_name};
 ghost use Rattle.box_sweep.specs.Logged.{IsEmpty, IsLogged, IsTrueBox};
+ghost use Rattle.box_sweep.specs.Partial.{EndsInPart, LeavesLog};
 ghost use Rattle.box_sweep.specs.Refusals.{HasShelfCause};
 ghost use Rattle.box_sweep.specs.Solutions.{SolvesInSheets};
 ghost use Rattle.box_sweep.specs.Words.{IsFitting, word_of};
@@ -34,6 +35,7 @@ fn solve_logged<H: Shelf>(
         → IfOk result (λ outcome. IsLogged formula.now budget outcome (unwrap_or (H.begun_name shelf.old) []) start (H.files shelf.new)) }
     ensures ended { OnOk result (H.begun_name shelf.new ≡ None) }
     ensures others { OthersAreLeft (H.begun_name shelf.old) (H.files shelf.old) (H.files shelf.new) }
+    ensures log { EndsInPart (H.begun_name shelf.old) (H.files shelf.old) (H.files shelf.new) }
     ensures cause { HasShelfCause (H.faults shelf.old) (H.faults shelf.new) result }
 {
     let mut log = LogWriter::new(alloc, shelf);
@@ -57,6 +59,7 @@ fn solve_named<H: Shelf>(
     ensures outcome { IfOk result (λ outcome. IsLogged formula.now budget outcome name.now (H.files shelf.old) (H.files shelf.new)) }
     ensures ended { OnOk result (H.begun_name shelf.new ≡ None) }
     ensures others { Told (OthersStay name.now) (H.files shelf.old) (H.files shelf.new) }
+    ensures log { Told (LeavesLog name.now) (H.files shelf.old) (H.files shelf.new) }
     ensures cause { HasShelfCause (H.faults shelf.old) (H.faults shelf.new) result }
 {
     begin_log(shelf, name)?;
@@ -80,7 +83,9 @@ pub fn sweep_box<H: Shelf>(
     ensures fits { IfOk result (λ verdict. IsFitting job.now verdict) }
     ensures ended { OnOk result (H.begun_name shelf.new ≡ None) }
 
-    // At every answer the files of other names are as before, and a fault is answered only where it was counted.
+    // At every answer the log is as before, or absent, or whole lines and a front of one, the files of other names are as
+    // before, and a fault is answered only where it was counted.
+    ensures log { Told (LeavesLog (log_name job.now.size)) (H.files shelf.old) (H.files shelf.new) }
     ensures others { Told (OthersStay (log_name job.now.size)) (H.files shelf.old) (H.files shelf.new) }
     ensures cause { HasShelfCause (H.faults shelf.old) (H.faults shelf.new) result }
 {

@@ -6,6 +6,7 @@ ghost use Rattle.cnf_base.specs.Literals.{are_below};
 ghost use Rattle.cnf_base.specs.Logs.{Add, Remove};
 ghost use Rattle.cnf_base.specs.Takes.{HasLogCause, Takes, are_ids, is_fault};
 ghost use Rattle.clause_log.specs.LogFiles.{OthersAreLeft, Writes, as_io, begun_file, is_broken, steps_told};
+ghost use Rattle.clause_log.specs.Growing.{BegunGoesOn};
 ghost use Rattle.clause_log.specs.LogText.{step_text};
 
 use crate::lines::{addition_line, removal_line};
@@ -31,6 +32,7 @@ impl<'a, H: Shelf> LogWriter<'a, H> {
         ensures same_shelf { result.shelf.ghost_name ≡ shelf.entry.ghost_name }
         ensures shelf { result.shelf.now ≡ shelf.old }
         ensures unbroken { ⟦<LogWriter<'a, H> as LogTake>⟧.broken result ≡ false }
+        ensures whole { result.broken ≡ false }
         ensures no_steps { IfSome (⟦<LogWriter<'a, H> as LogTake>⟧.steps result) (λ steps. steps ≡ []) }
         ensures empty { IfSome (H.files shelf.old) (λ fs. begun_file (H.begun_name shelf.old) fs ≡ Some []
             → ⟦<LogWriter<'a, H> as LogTake>⟧.steps result ≡ Some []) }
@@ -95,14 +97,16 @@ impl<H: Shelf> LogTake for LogWriter<'_, H> {
 
     ghost goes_on_from = { λ w v. (w.shelf.ghost_name ≡ v.shelf.ghost_name)
         × (H.begun_name w.shelf.now ≡ H.begun_name v.shelf.now)
-        × OthersAreLeft (H.begun_name v.shelf.now) (H.files v.shelf.now) (H.files w.shelf.now) };
+        × OthersAreLeft (H.begun_name v.shelf.now) (H.files v.shelf.now) (H.files w.shelf.now)
+        × BegunGoesOn v.broken w.broken (H.begun_name v.shelf.now) (H.files v.shelf.now) (H.files w.shelf.now) };
 
     ghost use Rattle.clause_log.specs.Leaving.{left_from_itself, left_through};
+    ghost use Rattle.clause_log.specs.Growing.{begun_goes_on_itself, begun_goes_on_through};
     ghost use Rattle.std.proofs.Common.{refl, ◌∙◌};
 
-    ghost goes_on_from_itself = { λ w. (refl, refl, left_from_itself (H.begun_name w.shelf.now) (H.files w.shelf.now)) };
+    ghost goes_on_from_itself = { λ w. (refl, refl, left_from_itself (H.begun_name w.shelf.now) (H.files w.shelf.now), begun_goes_on_itself w.broken (H.begun_name w.shelf.now) (H.files w.shelf.now)) };
 
-    ghost goes_on_through = { λ last mid first p q. (p.0 ∙ q.0, p.1 ∙ q.1, left_through (H.begun_name first.shelf.now) (H.begun_name mid.shelf.now) (H.files first.shelf.now) (H.files mid.shelf.now) (H.files last.shelf.now) q.1 q.2 p.2) };
+    ghost goes_on_through = { λ last mid first p q. (p.0 ∙ q.0, p.1 ∙ q.1, left_through (H.begun_name first.shelf.now) (H.begun_name mid.shelf.now) (H.files first.shelf.now) (H.files mid.shelf.now) (H.files last.shelf.now) q.1 q.2 p.2, begun_goes_on_through first.broken mid.broken last.broken (H.begun_name first.shelf.now) (H.begun_name mid.shelf.now) (H.files first.shelf.now) (H.files mid.shelf.now) (H.files last.shelf.now) q.1 q.3 p.3) };
 
     fn add(&mut self, id: u64, lits: &[Lit], hints: &[u64]) -> Result<(), LogBad>
         requires unbroken { is_broken self.old.broken (H.begun_name self.old.shelf.now) ≡ false }
@@ -115,7 +119,8 @@ impl<H: Shelf> LogTake for LogWriter<'_, H> {
         ensures cause { HasLogCause (H.faults self.old.shelf.now) (H.faults self.new.shelf.now) result }
         ensures goes_on { (self.new.shelf.ghost_name ≡ self.old.shelf.ghost_name)
             × (H.begun_name self.new.shelf.now ≡ H.begun_name self.old.shelf.now)
-            × OthersAreLeft (H.begun_name self.old.shelf.now) (H.files self.old.shelf.now) (H.files self.new.shelf.now) }
+            × OthersAreLeft (H.begun_name self.old.shelf.now) (H.files self.old.shelf.now) (H.files self.new.shelf.now)
+            × BegunGoesOn self.old.broken self.new.broken (H.begun_name self.old.shelf.now) (H.files self.old.shelf.now) (H.files self.new.shelf.now) }
     {
         let line = addition_line(self.alloc, id, lits, hints)?;
         self.put(&line)
@@ -130,7 +135,8 @@ impl<H: Shelf> LogTake for LogWriter<'_, H> {
         ensures cause { HasLogCause (H.faults self.old.shelf.now) (H.faults self.new.shelf.now) result }
         ensures goes_on { (self.new.shelf.ghost_name ≡ self.old.shelf.ghost_name)
             × (H.begun_name self.new.shelf.now ≡ H.begun_name self.old.shelf.now)
-            × OthersAreLeft (H.begun_name self.old.shelf.now) (H.files self.old.shelf.now) (H.files self.new.shelf.now) }
+            × OthersAreLeft (H.begun_name self.old.shelf.now) (H.files self.old.shelf.now) (H.files self.new.shelf.now)
+            × BegunGoesOn self.old.broken self.new.broken (H.begun_name self.old.shelf.now) (H.files self.old.shelf.now) (H.files self.new.shelf.now) }
     {
         let line = removal_line(self.alloc, after, ids)?;
         self.put(&line)

@@ -1,5 +1,5 @@
 -- What is solved in sheets is solved in flows, and the other way round.
-use Rattle.std.proofs.Common.{◌≡◌, ℕ, zero, suc, ◌<◌, Bool, true, false, nat_eq, List, [], ◌∷◌, map, length, get_or, slice_get, Option, Some, refl, sym, ap, subst, ◌∙◌, arith}
+use Rattle.std.proofs.Common.{◌≡◌, ℕ, zero, suc, ◌<◌, Bool, true, false, nat_eq, List, [], ◌∷◌, ◌++◌, map, length, get_or, slice_get, Option, Some, refl, sym, ap, subst, ◌∙◌, arith}
 use Rattle.std.specs.List.{AllByRecursion, list_all}
 use Rattle.std.proofs.lemmas.Bool.{and_parts, eqb-true}
 use Rattle.std.proofs.lemmas.Option.{slice_get-get_or}
@@ -19,6 +19,7 @@ use Rattle.zx_flow.specs.Flows.{HasFlow}
 use Rattle.sheet_flow.proofs.FlowSheets.{sheets_are_flows}
 use Rattle.box_sweep.specs.Lines.{is_found}
 use Rattle.box_sweep.specs.Logged.{IsTrueBox}
+use Rattle.box_sweep.specs.Partial.{IsBrokenOff}
 use Rattle.box_sweep.specs.Solutions.{SolvesInSheets}
 use Rattle.box_sweep.specs.Sweeps.{AreTried, AreTrue, HasSwept, Tried, box_at, boxes_in_order, by_found}
 use Rattle.box_sweep.specs.Verdicts.{BoxWord, FoundIt, IsTrueWord, Refuted, Undecided}
@@ -109,3 +110,24 @@ swept_in_flows b budget files files' out out' err err' end brief s = record {
   reported = s.reported;
   ending_is = s.ending_is;
 }
+
+-- ---- a sweep that was broken off
+
+front_all : (P : Tried → Type 0) (xs ys : List Tried) → AllByRecursion P (xs ++ ys) → AllByRecursion P xs
+front_all P [] ys h = tt
+front_all P (x ∷ xs) ys (h, hs) = (h, front_all P xs ys hs)
+
+pub broken_in_flows : (b : Brief) (budget : ℕ) (files files' : Option (List File)) (out out' err err' : Option (List ℕ)) → IsBrief b → IsBrokenOff SolvesInSheets b budget files files' out out' err err' → IsBrokenOff Solves b budget files files' out out' err err'
+broken_in_flows b budget files files' out out' err err' brief s =
+    let IsTried : Tried → Type 0 = λ x. IsTask (job_of b x.box) in
+    record {
+      tried = s.tried;
+      rest = s.rest;
+      in_order = s.in_order;
+      work = s.work;
+      work_is_next = s.work_is_next;
+      are_true = words_in_flows b budget files files' s.tried (front_all IsTried s.tried s.rest (tried_all (λ size. IsTask (job_of b size)) (boxes_in_order b) (s.tried ++ s.rest) (order_tasks b brief) s.in_order)) s.are_true;
+      left = s.left;
+      printed = s.printed;
+      said = s.said;
+    }

@@ -11,3 +11,4 @@ pub mod Runs
 pub mod Commands
 pub mod Sweep
 pub mod Answered
+pub mod Partial

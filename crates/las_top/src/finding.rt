@@ -2,12 +2,14 @@
 ghost use Rattle.std.specs.Prelude.{◌≡◌, ◌≢◌, ◌⊎◌, ◌≤◌, ◌++◌, codes, IfOk, string_bytes};
 ghost use Rattle.std.specs.Io.KnownBytes.{Appends};
 ghost use Rattle.las_io.specs.Counts.{Rose};
+ghost use Rattle.las_io.specs.Moves.{AppendsFront};
 ghost use Rattle.las_spec.specs.Texts.{refusal_text};
 ghost use Rattle.lasre_codec.specs.Texts as lasre_text;
 ghost use Rattle.las_top.specs.Answers.{IsAnswer, refused_line};
 ghost use Rattle.las_top.specs.Audit.{flow_line};
 ghost use Rattle.las_top.specs.Check.{broken_line};
 ghost use Rattle.las_top.specs.Findings.{answer_by, reason_by};
+ghost use Rattle.las_top.specs.Partial.{SaysFront};
 ghost use Rattle.las_top.specs.Runs.{Says};
 ghost use Rattle.las_top.specs.Verify.{rejected_line};
 
@@ -110,6 +112,7 @@ fn lasre_refused_text(alloc: Global, refusal: LasreRefused) -> Result<String, Al
 fn say<K: Sink>(sink: &mut K, text: &[u8], status: Status) -> Status
     requires { IsAnswer status }
     ensures told { IsAnswer result → (result ≡ status) × Appends (K.held sink.old) (K.held sink.new) text.now }
+    ensures front { AppendsFront (K.held sink.old) (K.held sink.new) text.now }
     ensures write_fault { result ≡ Status.WriteFault → Rose (K.faults sink.old) (K.faults sink.new) }
     ensures no_read_fault { result ≢ Status.ReadFault }
     ensures no_shelf_fault { result ≢ Status.ShelfFault }
@@ -125,6 +128,7 @@ fn say<K: Sink>(sink: &mut K, text: &[u8], status: Status) -> Status
 // Says a refusal.
 fn say_refused<E: Sink>(alloc: Global, refusal: Refusal, err: &mut E) -> Status
     ensures told { IsAnswer result → (result ≡ Status.Refused) × Appends (E.held err.old) (E.held err.new) (refused_line (reason_by refusal)) }
+    ensures front { AppendsFront (E.held err.old) (E.held err.new) (refused_line (reason_by refusal)) }
     ensures write_fault { result ≡ Status.WriteFault → Rose (E.faults err.old) (E.faults err.new) }
     ensures no_read_fault { result ≢ Status.ReadFault }
     ensures no_shelf_fault { result ≢ Status.ShelfFault }
@@ -153,6 +157,7 @@ pub(crate) fn tell<K: Sink, E: Sink>(
     err: &mut E,
 ) -> Status
     ensures said { IsAnswer result → Says (answer_by finding) result (K.held out.old) (K.held out.new) (E.held err.old) (E.held err.new) }
+    ensures front { SaysFront (answer_by finding) (K.held out.old) (K.held out.new) (E.held err.old) (E.held err.new) }
     ensures write_fault { result ≡ Status.WriteFault → Rose (K.faults out.old) (K.faults out.new) ⊎ Rose (E.faults err.old) (E.faults err.new) }
     ensures no_read_fault { result ≢ Status.ReadFault }
     ensures no_shelf_fault { result ≢ Status.ShelfFault }

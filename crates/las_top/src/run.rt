@@ -8,6 +8,7 @@ ghost use Rattle.las_top.specs.Answers.{EndsLogs, IsAnswer, number_of};
 ghost use Rattle.las_top.specs.Commands.{IsInBounds, IsLawful, command_as};
 ghost use Rattle.las_top.specs.Findings.{answer_by};
 ghost use Rattle.las_top.specs.Answered.{AnswersInput, AnswersTo, AsksNoShelf, HasAnswered, IsSentToShelf, ReadsNothing, SendsToShelf, WritesNoLogs, asks_shelf, reads_source, texts_of, writes_logs};
+ghost use Rattle.las_top.specs.Partial.{HasFront, HasLeft, LeavesAtShelf, LeavesAtSink};
 ghost use Rattle.las_top.specs.Runs.{AnswersAsked, AnswersCommand, GivesSpec, asks_file, sends};
 
 use crate::audit::audit;
@@ -143,6 +144,8 @@ fn find_and_tell<S: Source, K: Sink, E: Sink, H: Shelf>(
     requires none_begun { H.begun_name shelf.old ≡ None }
     requires lawful { IsLawful (command_as command) }
     ensures answer { IsAnswer result → AnswersInput S.left S.given H.files H.finds H.given Solves (command_as command.entry) src.old src.new shelf.old shelf.new (K.held out.old) (K.held out.new) (E.held err.old) (E.held err.new) result }
+    ensures at_sink { result ≡ Status.WriteFault → HasFront (AnswersCommand S.left S.given H.files H.finds H.given Solves (command_as command.entry) src.old src.new shelf.old shelf.new) (K.held out.old) (K.held out.new) (E.held err.old) (E.held err.new) }
+    ensures at_memory { result ≡ Status.Memory → (FilesStay (H.files shelf.old) (H.files shelf.new) × (out.new ≡ out.old) × (err.new ≡ err.old)) ⊎ HasFront (AnswersCommand S.left S.given H.files H.finds H.given Solves (command_as command.entry) src.old src.new shelf.old shelf.new) (K.held out.old) (K.held out.new) (E.held err.old) (E.held err.new) }
     ensures files { FilesStay (H.files shelf.old) (H.files shelf.new) }
     ensures begun { H.begun_name shelf.new ≡ None }
     ensures read_fault { result ≡ Status.ReadFault → Rose (S.faults src.old) (S.faults src.new) × (shelf.new ≡ shelf.old) }
@@ -173,6 +176,9 @@ fn obey<S: Source, K: Sink, E: Sink, H: Shelf>(
     requires bounds { IsInBounds command }
     ensures answer { IsAnswer result → AnswersTo S.left S.given H.files H.finds H.given Solves (Some command)
         src.old src.new shelf.old shelf.new (K.held out.old) (K.held out.new) (E.held err.old) (E.held err.new) result }
+    ensures at_sink { result ≡ Status.WriteFault → LeavesAtSink S.left S.given H.files H.finds H.given Solves src.old src.new shelf.old shelf.new (K.held out.old) (K.held out.new) (E.held err.old) (E.held err.new) (Some command) }
+    ensures at_shelf { result ≡ Status.ShelfFault → LeavesAtShelf S.left S.given H.files H.finds H.given Solves src.old src.new shelf.old shelf.new (K.held out.old) (K.held out.new) (E.held err.old) (E.held err.new) (Some command) }
+    ensures at_memory { result ≡ Status.Memory → (FilesStay (H.files shelf.old) (H.files shelf.new) × (out.new ≡ out.old) × (err.new ≡ err.old)) ⊎ LeavesAtSink S.left S.given H.files H.finds H.given Solves src.old src.new shelf.old shelf.new (K.held out.old) (K.held out.new) (E.held err.old) (E.held err.new) (Some command) }
     ensures nothing_read { reads_source command ≡ false → src.new ≡ src.old }
     ensures nothing_begun { EndsLogs result → H.begun_name shelf.new ≡ None }
     ensures unasked { asks_shelf command ≡ false → shelf.new ≡ shelf.old }
@@ -220,6 +226,13 @@ pub fn run_las<S: Source, K: Sink, E: Sink, H: Shelf>(
     ensures nothing_begun { EndsLogs result → H.begun_name shelf.new ≡ None }
     ensures unasked { AsksNoShelf (texts_of words.now) → shelf.new ≡ shelf.old }
     ensures shelf_files { WritesNoLogs (texts_of words.now) → FilesStay (H.files shelf.old) (H.files shelf.new) × (H.begun_name shelf.new ≡ None) }
+
+    // Where a sink failed, what the words ask for is left in part: fronts of its texts were said, and of a sweep each whole
+    // line is true. So it is where the shelf failed in a sweep, and where memory was refused once something was said.
+    ensures at_sink { result ≡ Status.WriteFault → HasLeft (LeavesAtSink S.left S.given H.files H.finds H.given Solves src.old src.new shelf.old shelf.new (K.held out.old) (K.held out.new) (E.held err.old) (E.held err.new)) (texts_of words.now) }
+    ensures at_shelf { result ≡ Status.ShelfFault → HasLeft (LeavesAtShelf S.left S.given H.files H.finds H.given Solves src.old src.new shelf.old shelf.new (K.held out.old) (K.held out.new) (E.held err.old) (E.held err.new)) (texts_of words.now) }
+    ensures at_memory { result ≡ Status.Memory → (FilesStay (H.files shelf.old) (H.files shelf.new) × (out.new ≡ out.old) × (err.new ≡ err.old))
+        ⊎ HasLeft (LeavesAtSink S.left S.given H.files H.finds H.given Solves src.old src.new shelf.old shelf.new (K.held out.old) (K.held out.new) (E.held err.old) (E.held err.new)) (texts_of words.now) }
 
     // A fault is answered only where the count of its object rose in this call, and a fault of the shelf only where the
     // command was sent to it.

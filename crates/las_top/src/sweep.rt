@@ -2,10 +2,13 @@
 ghost use Rattle.std.specs.Prelude.{◌≡◌, ◌⊎◌, ◌≢◌, ◌≤◌, None, true, IsOkAnd};
 ghost use Rattle.las_base.specs.declared.Axis.TheVariants.{J};
 ghost use Rattle.las_io.specs.Counts.{Rose};
+ghost use Rattle.las_io.specs.Shelves.{FilesStay};
 ghost use Rattle.las_spec.specs.Briefs.{spec_of};
 ghost use Rattle.las_top.specs.Headline.{Solves};
 ghost use Rattle.las_gen.specs.Ghz.{ghz_of};
 ghost use Rattle.las_top.specs.Answers.{EndsLogs, IsAnswer};
+ghost use Rattle.box_sweep.specs.Partial.{IsBrokenOff};
+ghost use Rattle.las_top.specs.Partial.{IsCutOff, LeavesSweep, LeavesSwept};
 ghost use Rattle.las_top.specs.Runs.{GivesSpec, is_any};
 ghost use Rattle.las_top.specs.Sweep.{AnswersSweep, IsSwept, IsSweptBy, status_by};
 
@@ -45,6 +48,7 @@ fn sweep_spec<K: Sink, E: Sink, H: Shelf>(
     requires high { budget ≤ 10000000 }
     requires none_begun { H.begun_name shelf.old ≡ None }
     ensures swept { IsAnswer result → IsSwept Solves spec.now budget (H.files shelf.old) (H.files shelf.new) (K.held out.old) (K.held out.new) (E.held err.old) (E.held err.new) result }
+    ensures broken_off { IsCutOff result → IsBrokenOff Solves spec.now budget (H.files shelf.old) (H.files shelf.new) (K.held out.old) (K.held out.new) (E.held err.old) (E.held err.new) }
     ensures ended { EndsLogs result → H.begun_name shelf.new ≡ None }
     ensures no_refusal { result ≢ Status.Refused }
     ensures no_read_fault { result ≢ Status.ReadFault }
@@ -73,6 +77,9 @@ fn sweep_bytes<K: Sink, E: Sink, H: Shelf>(
     requires high { budget ≤ 10000000 }
     requires none_begun { H.begun_name shelf.old ≡ None }
     ensures swept { IsAnswer result → IsSweptBy H.files Solves budget (spec_of bytes.now) shelf.old shelf.new (K.held out.old) (K.held out.new) (E.held err.old) (E.held err.new) result }
+    ensures at_sink { result ≡ Status.WriteFault → LeavesSwept H.files Solves budget (spec_of bytes.now) shelf.old shelf.new (K.held out.old) (K.held out.new) (E.held err.old) (E.held err.new) }
+    ensures at_shelf { result ≡ Status.ShelfFault → LeavesSwept H.files Solves budget (spec_of bytes.now) shelf.old shelf.new (K.held out.old) (K.held out.new) (E.held err.old) (E.held err.new) }
+    ensures at_memory { result ≡ Status.Memory → (FilesStay (H.files shelf.old) (H.files shelf.new) × (out.new ≡ out.old) × (err.new ≡ err.old)) ⊎ LeavesSwept H.files Solves budget (spec_of bytes.now) shelf.old shelf.new (K.held out.old) (K.held out.new) (E.held err.old) (E.held err.new) }
     ensures ended { EndsLogs result → H.begun_name shelf.new ≡ None }
     ensures no_read_fault { result ≢ Status.ReadFault }
     ensures shelf_fault { result ≡ Status.ShelfFault → Rose (H.faults shelf.old) (H.faults shelf.new) }
@@ -101,6 +108,11 @@ pub(crate) fn sweep_source<S: Source, K: Sink, E: Sink, H: Shelf>(
 
     // What is printed is true of what came, at every status but those of faults and of want of memory.
     ensures swept { IsAnswer result → AnswersSweep S.left S.given H.files Solves budget src.old src.new shelf.old shelf.new (K.held out.old) (K.held out.new) (E.held err.old) (E.held err.new) result }
+
+    // After a fault, or without memory, what was said is a front of what is true.
+    ensures at_sink { result ≡ Status.WriteFault → LeavesSweep S.left S.given H.files Solves budget src.old src.new shelf.old shelf.new (K.held out.old) (K.held out.new) (E.held err.old) (E.held err.new) }
+    ensures at_shelf { result ≡ Status.ShelfFault → LeavesSweep S.left S.given H.files Solves budget src.old src.new shelf.old shelf.new (K.held out.old) (K.held out.new) (E.held err.old) (E.held err.new) }
+    ensures at_memory { result ≡ Status.Memory → (FilesStay (H.files shelf.old) (H.files shelf.new) × (out.new ≡ out.old) × (err.new ≡ err.old)) ⊎ LeavesSweep S.left S.given H.files Solves budget src.old src.new shelf.old shelf.new (K.held out.old) (K.held out.new) (E.held err.old) (E.held err.new) }
     ensures ended { EndsLogs result → H.begun_name shelf.new ≡ None }
 
     // A fault is answered only where the count of its object rose in this call.
@@ -129,6 +141,9 @@ pub(crate) fn bench<K: Sink, E: Sink, H: Shelf>(
     requires high { n ≤ 24 }
     requires none_begun { H.begun_name shelf.old ≡ None }
     ensures swept { IsAnswer result → IsSwept Solves (ghz_of n J) 100000 (H.files shelf.old) (H.files shelf.new) (K.held out.old) (K.held out.new) (E.held err.old) (E.held err.new) result }
+    ensures at_sink { result ≡ Status.WriteFault → IsBrokenOff Solves (ghz_of n J) 100000 (H.files shelf.old) (H.files shelf.new) (K.held out.old) (K.held out.new) (E.held err.old) (E.held err.new) }
+    ensures at_shelf { result ≡ Status.ShelfFault → IsBrokenOff Solves (ghz_of n J) 100000 (H.files shelf.old) (H.files shelf.new) (K.held out.old) (K.held out.new) (E.held err.old) (E.held err.new) }
+    ensures at_memory { result ≡ Status.Memory → (FilesStay (H.files shelf.old) (H.files shelf.new) × (out.new ≡ out.old) × (err.new ≡ err.old)) ⊎ IsBrokenOff Solves (ghz_of n J) 100000 (H.files shelf.old) (H.files shelf.new) (K.held out.old) (K.held out.new) (E.held err.old) (E.held err.new) }
     ensures ended { EndsLogs result → H.begun_name shelf.new ≡ None }
     ensures no_refusal { result ≢ Status.Refused }
     ensures no_read_fault { result ≢ Status.ReadFault }

@@ -1,6 +1,8 @@
 use Rattle.std.proofs.Common.{rules, ◌||◌, ◌<◌, ap, ◌∙◌, sym, subst, arith, get_or, length}
 use Rattle.las_spec.specs.Boxes.{sweep_order}
 use Rattle.box_sweep.specs.Words.{word_of}
+use Rattle.box_sweep.proofs.Fronts.{at_error}
+use Rattle.box_sweep.proofs.PartLemmas.{broken_between, broken_now}
 use Rattle.box_sweep.proofs.SweepLemmas.{so_far_now, found_now, none_now}
 use Rattle.box_sweep.proofs.OrderLemmas.{number_at}
 use Rattle.box_sweep.proofs.boxes.try_boxes.Goals as goal
@@ -32,3 +34,12 @@ pub returns-clause-tried : goal.returns-clause-tried
 returns-clause-tried g c =
     none_now c.args.spec.now c.args.budget c.args.order.now c.loop-number.number-index c.loop-number.undecided _ _ _ _ _ _ c.requires.order c.ending_by-2.result c.size-own.result
     c.loop-number-test.false c.loop-number.auto.number-index-end c.loop-number.invariant.so_far c.ending_by-2.ensures
+
+pub returns-in_err-job-clause-broken_off : goal.returns-in_err-job-clause-broken_off
+returns-in_err-job-clause-broken_off g c =
+    at_error _ _ (broken_between c.args.spec.now c.args.budget c.loop-number.number-index c.loop-number.undecided _ _ _ _ _ _ c.loop-number.invariant.so_far)
+
+pub returns-in_err-verdict-clause-broken_off : goal.returns-in_err-verdict-clause-broken_off
+returns-in_err-verdict-clause-broken_off g c =
+    at_error _ _ (broken_now c.args.spec.now c.args.budget c.args.order.now c.loop-number.number-index c.loop-number.undecided _ _ _ _ _ _ _ _ _ c.in_ok-job.job c.requires.order
+    c.size-own.ensures.kept c.loop-number-test.true c.loop-number.invariant.so_far c.in_ok-job.ensures c.in_err-verdict.ensures.broken_off)

@@ -1,4 +1,4 @@
-use Rattle.std.proofs.Common.{Some}
+use Rattle.std.proofs.Common.{Some, inl, inr}
 use Rattle.las_top.proofs.run.run_las.Goals as goal
 
 pub returns-in-Ok-clause-answer : goal.returns-in-Ok-clause-answer
@@ -7,3 +7,27 @@ returns-in-Ok-clause-answer g c = λ is. record {
   asked = c.in-Ok.ensures.form;
   answered = c.obey.ensures.answer is;
 }
+
+pub returns-in-Ok-clause-at_sink : goal.returns-in-Ok-clause-at_sink
+returns-in-Ok-clause-at_sink g c = λ is. record {
+  command = Some c.in-Ok.command;
+  asked = c.in-Ok.ensures.form;
+  left = c.obey.ensures.at_sink is;
+}
+
+pub returns-in-Ok-clause-at_shelf : goal.returns-in-Ok-clause-at_shelf
+returns-in-Ok-clause-at_shelf g c = λ is. record {
+  command = Some c.in-Ok.command;
+  asked = c.in-Ok.ensures.form;
+  left = c.obey.ensures.at_shelf is;
+}
+
+pub returns-in-Ok-clause-at_memory : goal.returns-in-Ok-clause-at_memory
+returns-in-Ok-clause-at_memory g c = λ is. elim (c.obey.ensures.at_memory is) [
+  | inl untouched ↦ inl untouched
+  | inr left ↦ inr (record {
+    command = Some c.in-Ok.command;
+    asked = c.in-Ok.ensures.form;
+    left = left;
+  })
+]
