@@ -73,8 +73,8 @@ places_count p rs =
     sym (length-filter (λ (r : ClauseRef). p r.0) rs) ∙ sym (length-map (filter (λ (r : ClauseRef). p r.0) rs) (λ (r : ClauseRef). r.0)) ∙ ap length (places_filter p rs) ∙ length-filter p (places_of rs)
 
 -- of the idle lessons in any order, as many as half of all lessons
-pub chosen : (n : ℕ) (t : Seen) (cs : List Live) (xs ys zs : List Idle) (lessons k : ℕ) (gone : List ClauseRef) → Falls cs → length t.entries ≤ t.vars → AreIdle n t cs (clauses_of xs) lessons → IsPermutation xs ys → IsPermutation ys zs → k ≡ lessons / 2 → gone ≡ clauses_of (take k zs) → AreChosen n t cs gone
-chosen n t cs xs ys zs lessons k gone falls short idle one two half is = record {
+pub chosen : (n : ℕ) (t : Seen) (cs : List Live) (xs ys : List Idle) (lessons k : ℕ) (gone : List ClauseRef) → Falls cs → length t.entries ≤ t.vars → AreIdle n t cs (clauses_of xs) lessons → IsPermutation xs ys → k ≡ lessons / 2 → gone ≡ clauses_of (take k ys) → AreChosen n t cs gone
+chosen n t cs xs ys lessons k gone falls short idle one half is = record {
   may_go = record {
     live = λ r h. live_among cs r (passed r h).0;
     idle = λ r h. (and_parts (is_lesson n cs r) (is_idle t cs r) (passed r h).1).1;
@@ -90,9 +90,8 @@ chosen n t cs xs ys zs lessons k gone falls short idle one two half is = record 
 
     times_most : (r : ℕ) → times r (places_of gone) ≤ times r (filter (is_idle_lesson n t cs) (places cs))
     times_most r =
-        let a : times r (places_of gone) ≡ times r (places_of (clauses_of (take k zs))) = ap (λ rs. times r (places_of rs)) is in
-        let b = times_take r k zs in
-        let c = times_shuffled r ys zs two in
+        let a : times r (places_of gone) ≡ times r (places_of (clauses_of (take k ys))) = ap (λ rs. times r (places_of rs)) is in
+        let b = times_take r k ys in
         let d = times_shuffled r xs ys one in
         let e : times r (places_of (clauses_of xs)) ≡ times r (filter (is_idle_lesson n t cs) (places cs)) = ap (times r) stand in
         omega arith
@@ -103,12 +102,12 @@ chosen n t cs xs ys zs lessons k gone falls short idle one two half is = record 
     count : lessons ≡ lessons_in n cs
     count = idle.count ∙ places_count (is_lesson n cs) idle.all ∙ ap (count_by (is_lesson n cs)) idle.all_are
 
-    long : length gone ≡ min k (length zs)
-    long = ap length is ∙ length-map (take k zs) (λ (x : Idle). x.clause) ∙ length-take k zs
+    long : length gone ≡ min k (length ys)
+    long = ap length is ∙ length-map (take k ys) (λ (x : Idle). x.clause) ∙ length-take k ys
 
-    many : length zs ≡ count_by (is_idle_lesson n t cs) (places cs)
+    many : length ys ≡ count_by (is_idle_lesson n t cs) (places cs)
     many =
-        length_permutation ys zs two ∙ length_permutation xs ys one ∙ sym (length-map xs (λ (x : Idle). x.clause)) ∙ sym (length-map (clauses_of xs) (λ (r : ClauseRef). r.0)) ∙ ap length stand ∙ length-filter (is_idle_lesson n t cs) (places cs)
+        length_permutation xs ys one ∙ sym (length-map xs (λ (x : Idle). x.clause)) ∙ sym (length-map (clauses_of xs) (λ (r : ClauseRef). r.0)) ∙ ap length stand ∙ length-filter (is_idle_lesson n t cs) (places cs)
 
 -- on the way: the clauses up to a place were looked at
 pub record IsFinding (n : ℕ) (t : Seen) (cs : List Live) (refs : List ClauseRef) (i : ℕ) (idle : List Idle) (lessons : ℕ) : Type 0 where

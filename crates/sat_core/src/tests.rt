@@ -1,5 +1,6 @@
-// Two worked formulas over two variables, and a log that fails.
+// Worked formulas, and a log that fails.
 ghost use Rattle.std.specs.Prelude.{◌≡◌, false};
+ghost use Rattle.cnf_base.specs.Literals.{are_below};
 
 use crate::{Outcome, SolveRefused, solve};
 use cnf_base::{ClauseTake, Formula, Lit, LogBad, LogTake};
@@ -107,5 +108,75 @@ fn a_fault_of_the_log_ends_the_search(rt: HostRuntime) -> Result<(), Fail> {
         Ok(_) => panic!(rt; "no fault"),
         Err(e) => assert_eq!(rt; e, SolveRefused::LogFault),
     }
+    Ok(())
+}
+
+fn are_below(vars: u32, lits: &[Lit]) -> bool
+    ensures { result ≡ are_below vars lits.now }
+{
+    lits.iter().all(|lit| lit.var().0 < vars)
+}
+
+// Puts a clause to the end, where it is over the formula's variables.
+fn put(f: &mut Formula, lits: &[Lit]) -> Result<(), AllocError> {
+    if are_below(f.vars(), lits) {
+        f.take(lits)?;
+    }
+    Ok(())
+}
+
+// Four pigeons sit in three holes, no two in one: variable 3·p + h says that pigeon p sits in hole h.
+fn pigeons(alloc: Global) -> Result<Formula, AllocError> {
+    let mut f = Formula::new(alloc, 12);
+    for p in 0..4 {
+        put(&mut f, &[Lit(6 * p), Lit(6 * p + 2), Lit(6 * p + 4)])?;
+    }
+    for h in 0..3 {
+        for p in 0..4 {
+            for q in p + 1..4 {
+                put(&mut f, &[Lit(6 * p + 2 * h + 1), Lit(6 * q + 2 * h + 1)])?;
+            }
+        }
+    }
+    Ok(f)
+}
+
+fn formula(alloc: Global, clauses: &[&[Lit]]) -> Result<Formula, AllocError> {
+    let mut f = Formula::new(alloc, 2);
+    for lits in clauses {
+        put(&mut f, lits)?;
+    }
+    Ok(f)
+}
+
+// What a search comes to, as a word and its number.
+fn comes_to(alloc: Global, f: &Formula) -> Result<(&'static str, u64), SolveRefused> {
+    let mut log = log_that_fails_at(0);
+    match solve(alloc, f, 1000, &mut log)? {
+        Outcome::Model(_) => Ok(("model", 0)),
+        Outcome::Refuted(n) => Ok(("refuted", n)),
+        Outcome::Spent(n) => Ok(("spent", n)),
+    }
+}
+
+#[test]
+fn worked_formulas(rt: HostRuntime) -> Result<(), Fail> {
+    let alloc = rt.alloc();
+    let cases: [(&[&[Lit]], &str); 5] = [
+        (&[], "model"),
+        (&[&[]], "refuted"),
+        (&[&[Lit(0)], &[Lit(1)]], "refuted"),
+        (&[&[Lit(0), Lit(1)]], "model"),
+        (&[&[Lit(0), Lit(0)], &[Lit(1), Lit(1), Lit(2)]], "model"),
+    ];
+    for (clauses, word) in cases {
+        let f = formula(alloc, clauses)?;
+        assert_eq!(rt; comes_to(alloc, &f)?, (word, 0));
+    }
+    let f = pigeons(alloc)?;
+    assert_eq!(rt; f.len(), 22);
+    let (word, lessons) = comes_to(alloc, &f)?;
+    assert_eq!(rt; word, "refuted");
+    assert!(rt; lessons >= 1);
     Ok(())
 }

@@ -14,6 +14,7 @@ use crate::search::Search;
 use clause_arena::ClauseRef;
 use cnf_base::Var;
 use std::alloc::{AllocError, Global};
+use std::cmp::Reverse;
 
 // A lesson that may go, with the number of its literals.
 #[derive(Clone, Copy)]
@@ -35,8 +36,7 @@ impl Search {
         let refs = self.arena.refs(alloc)?;
         let found = self.idle_lessons(alloc, formula, &refs)?;
         let mut idle = found.0;
-        idle.sort_by_key(|lesson| lesson.size)?;
-        idle.reverse();
+        idle.sort_by_key(|lesson| Reverse(lesson.size))?;
         idle.truncate(found.1 / 2);
         clauses_of(alloc, &idle)
     }

@@ -9,5 +9,5 @@ use Rattle.sat_core.proofs.search.Search.worth_least.Goals as goal
 pub returns : goal.returns
 returns c =
     if_ok_on (λ (clauses : Vec ClauseRef Global). clauses.items ≡ clauses_of c.deref-2.result.now) (λ (gone : Vec ClauseRef Global). AreChosen c.args.formula c.args.self.now.trail (clauses_in c.args.self.now.arena) gone.items) c.clauses_of.result
-    (λ gone is. chosen c.args.formula c.args.self.now.trail (clauses_in c.args.self.now.arena) c.in_ok-found.found.0.items c.sort_by_key.new.self.items c.reverse.new.self.items c.in_ok-found.found.1 (c.in_ok-found.found.1 / 2) gone.items (falls_in c.args.self.now.arena) c.requires.fits.trail.short c.in_ok-found.ensures c.sort_by_key.ensures.permutation c.reverse.ensures.permutation refl (is ∙ ap clauses_of (c.deref-2.ensures.value ∙ c.truncate.ensures.items)))
+    (λ gone is. chosen c.args.formula c.args.self.now.trail (clauses_in c.args.self.now.arena) c.in_ok-found.found.0.items c.sort_by_key.new.self.items c.in_ok-found.found.1 (c.in_ok-found.found.1 / 2) gone.items (falls_in c.args.self.now.arena) c.requires.fits.trail.short c.in_ok-found.ensures c.sort_by_key.ensures.permutation refl (is ∙ ap clauses_of (c.deref-2.ensures.value ∙ c.truncate.ensures.items)))
     c.clauses_of.ensures
