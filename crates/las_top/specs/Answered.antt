@@ -1,5 +1,5 @@
 -- What a run is answered, by its words: a text that the input determines, or, of a sweep, what is true of what is said.
-use Rattle.std.specs.Prelude.{◌≡◌, ℕ, Bool, true, false, List, map, codes, Option, Some, None, String, string_bytes}
+use Rattle.std.specs.Prelude.{◌≡◌, ℕ, Bool, true, false, List, map, Option, Some, None, String, string_bytes}
 use Rattle.std.specs.declared.alloc.Global.{Global}
 use Rattle.las_base.specs.declared.Axis.TheVariants.{J}
 use Rattle.las_base.specs.Jobs.{Task}
@@ -10,7 +10,7 @@ use Rattle.las_words.specs.declared.command.Command.{Command}
 use Rattle.las_words.specs.declared.command.Command.TheVariants.{Sweep, Check, Audit, Verify, Spec, Zx, Bench}
 use Rattle.las_words.specs.Forms.{IsForm}
 use Rattle.las_top.specs.declared.run.Status.{Status}
-use Rattle.las_top.specs.Answers.{Answer, refused}
+use Rattle.las_top.specs.Answers.{Answer, refused, words_reason}
 use Rattle.las_top.specs.Runs.{Asked, AnswersCommand, GivesSpec, Says, is_any}
 use Rattle.las_top.specs.Verify.{lists_box}
 use Rattle.las_top.specs.Sweep.{AnswersSweep, IsSwept}
@@ -84,7 +84,7 @@ module _ {S : Type 0} (left : S → Option (List ℕ)) (given : S → ℕ) where
 module _ {S H : Type 0} (left : S → Option (List ℕ)) (given : S → ℕ) (files : H → Option (List File)) (finds : H → List ℕ → Bool → Type 0) (fetched : H → ℕ) where
   -- words that ask for nothing are refused, and nothing is read
   abbrev pub RefusesWords : S → S → H → H → Option (List ℕ) → Option (List ℕ) → Option (List ℕ) → Option (List ℕ) → Status → Type 0
-  RefusesWords src src' before after out out' err err' status = Says (refused (codes "words")) status out out' err err' × (src' ≡ src) × (after ≡ before)
+  RefusesWords src src' before after out out' err err' status = Says (refused words_reason) status out out' err err' × (src' ≡ src) × (after ≡ before)
 
   -- the answer of a command that the input determines
   abbrev pub AnswersInput : (Task → Drawing → Type 0) → Asked → S → S → H → H → Option (List ℕ) → Option (List ℕ) → Option (List ℕ) → Option (List ℕ) → Status → Type 0

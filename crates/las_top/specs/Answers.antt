@@ -25,6 +25,48 @@ refused_line reason = codes "refused: " ++ (reason ++ codes "\n")
 abbrev pub refused : List ℕ → Answer
 refused reason = record { status = Refused; out = []; err = refused_line reason }
 
+-- ---- the lines and reasons that are the same at every run
+
+-- the diagram is valid
+abbrev pub valid_line : List ℕ
+valid_line = codes "valid\n"
+
+-- the document solves the job of a listed box
+abbrev pub solves_line : List ℕ
+solves_line = codes "solves\n"
+
+-- the document's job is that of no listed box
+abbrev pub other_job_line : List ℕ
+other_job_line = codes "other job\n"
+
+-- the log refutes the box's clauses
+abbrev pub accepted_line : List ℕ
+accepted_line = codes "accepted\n"
+
+-- the words are no command
+abbrev pub words_reason : List ℕ
+words_reason = codes "words"
+
+-- the source has more bytes than a document may have
+abbrev pub too_long_reason : List ℕ
+too_long_reason = codes "too long"
+
+-- the file has more bytes than a document may have
+abbrev pub lasre_too_long_reason : List ℕ
+lasre_too_long_reason = codes "lasre too long"
+
+-- there is no file of this name
+abbrev pub no_file_reason : List ℕ → List ℕ
+no_file_reason name = codes "no file " ++ name
+
+-- no listed box has the size
+abbrev pub not_listed_reason : List ℕ
+not_listed_reason = codes "box not listed"
+
+-- the log has more bytes than a log may have
+abbrev pub log_too_long_reason : List ℕ
+log_too_long_reason = codes "log too long"
+
 -- the status is that of an answer: no fault, and no want of memory
 abbrev pub IsAnswer : Status → Type 0
 IsAnswer ReadFault = ⊥

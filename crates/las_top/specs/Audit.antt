@@ -18,7 +18,7 @@ use Rattle.grid_box.specs.Drawings.{Drawing}
 use Rattle.las_spec.specs.Briefs.{Brief, job_of}
 use Rattle.lasre_codec.specs.declared.refusal.LasreRefused.{LasreRefused}
 use Rattle.lasre_codec.specs.Documents.{Lasre, lasre_of}
-use Rattle.las_top.specs.Answers.{Answer, yes_with, no_with}
+use Rattle.las_top.specs.Answers.{Answer, yes_with, no_with, other_job_line, solves_line}
 use Rattle.las_top.specs.Check.{broken_line, refused_lasre}
 
 -- the job is that of a listed box
@@ -46,12 +46,12 @@ flow_line flow b =
 abbrev pub answer_to_breaches : Option Broken → Option (ℕ × Broken) → Answer
 answer_to_breaches (Some broken) _ = no_with (broken_line broken)
 answer_to_breaches None (Some x) = no_with (flow_line x.0 x.1)
-answer_to_breaches None None = yes_with (codes "solves\n")
+answer_to_breaches None None = yes_with solves_line
 
 -- what is answered to a job, a diagram and sheets
 abbrev pub audit_of : Brief → Lasre → Answer
 audit_of b l =
-    if is_listed b l.task then answer_to_breaches (breach l.task l.drawing) (first_unserved l.task l.drawing l.surfaces 0 l.task.flows) else no_with (codes "other job\n")
+    if is_listed b l.task then answer_to_breaches (breach l.task l.drawing) (first_unserved l.task l.drawing l.surfaces 0 l.task.flows) else no_with other_job_line
 
 -- what is answered to what a document gives
 abbrev pub audit_given : Brief → Result Lasre LasreRefused → Answer

@@ -6,7 +6,7 @@ use Rattle.grid_box.specs.Breaches.{breach}
 use Rattle.lasre_codec.specs.declared.refusal.LasreRefused.{LasreRefused}
 use Rattle.lasre_codec.specs.Documents.{Lasre, lasre_of}
 use Rattle.lasre_codec.specs.Texts.{refusal_text}
-use Rattle.las_top.specs.Answers.{Answer, yes_with, no_with, refused}
+use Rattle.las_top.specs.Answers.{Answer, yes_with, no_with, refused, valid_line}
 
 -- the line of a rule that is broken
 abbrev pub broken_line : Broken → List ℕ
@@ -14,7 +14,7 @@ broken_line b = codes "broken V" ++ (decimal b.rule ++ (codes " " ++ (decimal b.
 
 -- what is answered where the first breach is this
 abbrev pub answer_to_breach : Option Broken → Answer
-answer_to_breach None = yes_with (codes "valid\n")
+answer_to_breach None = yes_with valid_line
 answer_to_breach (Some broken) = no_with (broken_line broken)
 
 -- the refusal of a document of a diagram

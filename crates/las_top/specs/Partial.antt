@@ -1,5 +1,5 @@
 -- What a run leaves where a fault or want of memory ends it: of the texts that it would have said a front, and of a sweep what is true.
-use Rattle.std.specs.Prelude.{◌≡◌, ◌⊎◌, ℕ, ◌+◌, ◌≤◌, Bool, List, length, codes, Option, Some, None, Result, Ok, Err}
+use Rattle.std.specs.Prelude.{◌≡◌, ◌⊎◌, ℕ, ◌+◌, ◌≤◌, Bool, List, length, Option, Some, None, Result, Ok, Err}
 use Rattle.las_base.specs.declared.Axis.TheVariants.{J}
 use Rattle.las_base.specs.Jobs.{Task}
 use Rattle.las_io.specs.Moves.{AppendsFront, GivesAll, GivesCount, IsAllLeft}
@@ -15,7 +15,7 @@ use Rattle.box_sweep.specs.Partial.{IsBrokenOff}
 use Rattle.las_top.specs.declared.run.Status.{Status}
 use Rattle.las_top.specs.declared.run.Status.TheVariants.{WriteFault, ShelfFault, Memory}
 use Rattle.las_top.specs.Answered.{AsksFor}
-use Rattle.las_top.specs.Answers.{Answer, refused}
+use Rattle.las_top.specs.Answers.{Answer, refused, too_long_reason, words_reason}
 use Rattle.las_top.specs.Runs.{Asked, AnswersCommand, most_bytes}
 
 -- the growths of the two sinks are fronts of an answer's texts
@@ -45,7 +45,7 @@ module _ {S H : Type 0} (left : S → Option (List ℕ)) (given : S → ℕ) (fi
   -- one byte more than a document may have came, and a front of that refusal was said
   pub record LeavesTooLong (src src' : S) (before after : H) (out out' err err' : Option (List ℕ)) : Type 0 where
     pub came : GivesCount left given src src' (most_bytes + 1)
-    pub said : SaysFront (refused (codes "too long")) out out' err err'
+    pub said : SaysFront (refused too_long_reason) out out' err err'
     pub shelf_is : after ≡ before
 
   -- these bytes came, all that the source had, and this is left of the sweep of what they give
@@ -69,7 +69,7 @@ module _ {S H : Type 0} (left : S → Option (List ℕ)) (given : S → ℕ) (fi
 
   -- what is left of a command, or of words that are refused, where a sink failed
   abbrev pub LeavesAtSink : (Task → Drawing → Type 0) → S → S → H → H → Option (List ℕ) → Option (List ℕ) → Option (List ℕ) → Option (List ℕ) → Option Command → Type 0
-  LeavesAtSink Solved src src' before after out out' err err' None = SaysFront (refused (codes "words")) out out' err err' × (src' ≡ src) × (after ≡ before)
+  LeavesAtSink Solved src src' before after out out' err err' None = SaysFront (refused words_reason) out out' err err' × (src' ≡ src) × (after ≡ before)
   LeavesAtSink Solved src src' before after out out' err err' (Some (Sweep budget)) = LeavesSweep left given files Solved budget src src' before after out out' err err'
   LeavesAtSink Solved src src' before after out out' err err' (Some (Bench n)) = IsBrokenOff Solved (ghz_of n J) 100000 (files before) (files after) out out' err err' × (src' ≡ src)
   LeavesAtSink Solved src src' before after out out' err err' (Some Check) = LeavesInput Solved Asked.Check src src' before after out out' err err'

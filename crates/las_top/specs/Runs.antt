@@ -1,5 +1,5 @@
 -- What a run is answered, by its words, by what came from its source, and by the shelf.
-use Rattle.std.specs.Prelude.{◌≡◌, ◌↔◌, ◌⊎◌, ℕ, ◌+◌, ◌≤◌, Bool, true, false, List, ◌++◌, length, codes, Option, Some, None, IfSome, option_map, Result, Ok, Err, IsOkAnd}
+use Rattle.std.specs.Prelude.{◌≡◌, ◌↔◌, ◌⊎◌, ℕ, ◌+◌, ◌≤◌, Bool, true, false, List, ◌++◌, length, Option, Some, None, IfSome, option_map, Result, Ok, Err, IsOkAnd}
 use Rattle.std.specs.Io.KnownBytes.{Appends}
 use Rattle.las_base.specs.declared.Size.{Size}
 use Rattle.las_base.specs.Jobs.{Task}
@@ -16,7 +16,7 @@ use Rattle.clause_log.specs.Pieces.{read_to_limit}
 use Rattle.box_sweep.specs.Lines.{log_name}
 use Rattle.las_top.specs.declared.run.Status.{Status}
 use Rattle.las_top.specs.declared.run.Status.TheVariants.{Good}
-use Rattle.las_top.specs.Answers.{Answer, refused}
+use Rattle.las_top.specs.Answers.{Answer, refused, lasre_too_long_reason, no_file_reason, not_listed_reason, too_long_reason}
 use Rattle.las_top.specs.Audit.{audit_answer}
 use Rattle.las_top.specs.Check.{check_answer}
 use Rattle.las_top.specs.Headline.{HasSolution, NoneSolves, ShowsFlows}
@@ -75,7 +75,7 @@ module _ {H : Type 0} (files : H → Option (List File)) (finds : H → List ℕ
   pub record IsNoFile (name : List ℕ) (before : H) (answer : Answer) : Type 0 where
     pub absent : finds before name false
     pub told : IfSome (files before) (λ fs. file_of fs name ≡ None)
-    pub answer_is : answer ≡ refused (codes "no file " ++ name)
+    pub answer_is : answer ≡ refused (no_file_reason name)
 
   -- these are the steps of the log and what follows them, this is answered to them, and where the log is accepted this is shown
   pub record AnswersLog (Shown : Type 0) (f : Cnf) (name : List ℕ) (before : H) (answer : Answer) : Type 0 where
@@ -96,7 +96,7 @@ module _ {H : Type 0} (files : H → Option (List File)) (finds : H → List ℕ
 
   -- what `verify` answers by whether the box is listed: the shelf is asked where it is
   abbrev pub AnswersListed : (Task → Drawing → Type 0) → Bool → Task → H → H → Answer → Type 0
-  AnswersListed Solved false t before after answer = (answer ≡ refused (codes "box not listed")) × (after ≡ before)
+  AnswersListed Solved false t before after answer = (answer ≡ refused not_listed_reason) × (after ≡ before)
   AnswersListed Solved true t before after answer = AnswersBoxLog Solved t before answer
 
   -- what `verify` answers to what a document of a specification gives
@@ -106,11 +106,11 @@ module _ {H : Type 0} (files : H → Option (List File)) (finds : H → List ℕ
 
 -- and how many bytes its fetches have given
 module _ {H : Type 0} (files : H → Option (List File)) (finds : H → List ℕ → Bool → Type 0) (fetched : H → ℕ) where
-  -- one byte more than so many came of the file, and it is refused for this reason
-  pub record IsLongFile (most : ℕ) (reason name : List ℕ) (before after : H) (answer : Answer) : Type 0 where
+  -- one byte more than a document may have came of the file
+  pub record IsLongFile (name : List ℕ) (before after : H) (answer : Answer) : Type 0 where
     pub present : finds before name true
-    pub came : FetchesCount files fetched name before after (most + 1)
-    pub answer_is : answer ≡ refused reason
+    pub came : FetchesCount files fetched name before after (most_bytes + 1)
+    pub answer_is : answer ≡ refused lasre_too_long_reason
 
   -- these bytes came, all that the file has, and this is what `audit` answers to them. It says yes exactly where their job is a listed one and their own sheets serve, and then their diagram solves its job
   pub record AnswersBytes (b : Brief) (name : List ℕ) (before after : H) (answer : Answer) : Type 0 where
@@ -125,7 +125,7 @@ module _ {H : Type 0} (files : H → Option (List File)) (finds : H → List ℕ
 
   -- what is answered of a file, for a specification
   abbrev pub AnswersFile : Brief → List ℕ → H → H → Answer → Type 0
-  AnswersFile b name before after answer = IsNoFile files finds name before answer ⊎ (IsLongFile most_bytes (codes "lasre too long") name before after answer ⊎ AnswersBytes b name before after answer)
+  AnswersFile b name before after answer = IsNoFile files finds name before answer ⊎ (IsLongFile name before after answer ⊎ AnswersBytes b name before after answer)
 
   -- what `audit` answers to what a document of a specification gives: the shelf is asked where this is not refused
   abbrev pub AnswersSpec : List ℕ → Result Brief SpecRefused → H → H → Answer → Type 0
@@ -147,7 +147,7 @@ module _ {S : Type 0} (left : S → Option (List ℕ)) (given : S → ℕ) where
   -- one byte more than a document may have came
   pub record IsTooLong (before after : S) (answer : Answer) : Type 0 where
     pub came : GivesCount left given before after (most_bytes + 1)
-    pub answer_is : answer ≡ refused (codes "too long")
+    pub answer_is : answer ≡ refused too_long_reason
 
   -- these bytes came, all that the source had, and they are answered so
   pub record AnswersDocument (answers : List ℕ → Answer → Type 0) (before after : S) (answer : Answer) : Type 0 where

@@ -1,5 +1,5 @@
 -- What `sweep` and `bench` answer: not one text, since several diagrams may fit a box, but what is true of what is said.
-use Rattle.std.specs.Prelude.{◌≡◌, ◌⊎◌, ℕ, ◌+◌, ◌≤◌, List, length, codes, Option, Result, Ok, Err}
+use Rattle.std.specs.Prelude.{◌≡◌, ◌⊎◌, ℕ, ◌+◌, ◌≤◌, List, length, Option, Result, Ok, Err}
 use Rattle.las_base.specs.Jobs.{Task}
 use Rattle.las_io.specs.Moves.{GivesAll, GivesCount, IsAllLeft}
 use Rattle.las_io.specs.Shelves.{File}
@@ -12,7 +12,7 @@ use Rattle.box_sweep.specs.declared.ending.Ending.TheVariants.{Least, Found, Non
 use Rattle.box_sweep.specs.Sweeps.{HasSwept}
 use Rattle.las_top.specs.declared.run.Status.{Status}
 use Rattle.las_top.specs.declared.run.Status.TheVariants as status
-use Rattle.las_top.specs.Answers.{refused}
+use Rattle.las_top.specs.Answers.{refused, too_long_reason}
 use Rattle.las_top.specs.Runs.{Says, most_bytes}
 
 -- the status that an ending gives
@@ -40,7 +40,7 @@ module _ {S H : Type 0} (left : S → Option (List ℕ)) (given : S → ℕ) (fi
   -- one byte more than a document may have came, and this is said
   pub record IsTooLongToSweep (src src' : S) (before after : H) (out out' err err' : Option (List ℕ)) (status : Status) : Type 0 where
     pub came : GivesCount left given src src' (most_bytes + 1)
-    pub said : Says (refused (codes "too long")) status out out' err err'
+    pub said : Says (refused too_long_reason) status out out' err err'
     pub shelf_is : after ≡ before
 
   -- these bytes came, all that the source had, and what they give was swept

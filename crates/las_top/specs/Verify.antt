@@ -9,7 +9,7 @@ use Rattle.cnf_base.specs.Literals.{Cnf, IsRefuted}
 use Rattle.cnf_base.specs.Logs.{LogStep, Tail, LogEnd, Malformed, Limit, first_fault}
 use Rattle.clause_log.specs.Steps.{Ahead, Follows, tail_of}
 use Rattle.las_top.specs.declared.run.Status.TheVariants.{Good}
-use Rattle.las_top.specs.Answers.{Answer, yes_with, no_with, refused}
+use Rattle.las_top.specs.Answers.{Answer, yes_with, no_with, refused, accepted_line, log_too_long_reason}
 
 -- a box of this size is listed
 abbrev pub lists_box : Size → Brief → Bool
@@ -22,9 +22,9 @@ rejected_line line why = codes "rejected " ++ (decimal line ++ (codes " why " ++
 -- what is answered by a log's first fault, and by what follows its steps. A line that is not of the form is always a fault
 abbrev pub answer_to_fault : Option (ℕ × ℕ) → Tail → Answer
 answer_to_fault (Some fault) tail = no_with (rejected_line fault.0 fault.1)
-answer_to_fault None LogEnd = yes_with (codes "accepted\n")
-answer_to_fault None Malformed = yes_with (codes "accepted\n")
-answer_to_fault None Limit = refused (codes "log too long")
+answer_to_fault None LogEnd = yes_with accepted_line
+answer_to_fault None Malformed = yes_with accepted_line
+answer_to_fault None Limit = refused log_too_long_reason
 
 -- what is answered to the steps of a log, and to what follows them: it is accepted exactly where they refute the formula
 abbrev pub log_answer : Cnf → List LogStep → Tail → Answer
