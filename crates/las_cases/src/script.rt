@@ -15,6 +15,17 @@ enum Object {
     Shelf,
 }
 
+/// What a run leaves: what stands on out, the shelf, and how often each object was called.
+#[derive(Drop)]
+struct Played {
+    out: String,
+    shelf: MemShelf,
+    source_calls: u64,
+    out_calls: u64,
+    err_calls: u64,
+    shelf_calls: u64,
+}
+
 /// A script, as far as it has been read.
 #[derive(Drop)]
 pub(crate) struct Script {
@@ -88,6 +99,7 @@ impl Script {
             "some" => self.hides_counts = true,
             "run" => self.run(rest, said)?,
             "fronts" => self.run_fronts(rest, said)?,
+            "each" => self.run_each(rest, said)?,
             "fault" => self.faults.push(String::from_str(self.alloc, rest)?)?,
             "pairs" => self.run_pairs(rest, said)?,
             "keep" => self
@@ -127,13 +139,7 @@ impl Script {
     // `OBJECT NUMBER NUMBER ..`
     fn add_fails(&mut self, line: &str) -> Result<()> {
         let (name, numbers) = line.split_once(' ').context("an object and numbers")?;
-        let object = match name {
-            "source" => Object::Source,
-            "out" => Object::Out,
-            "err" => Object::Err,
-            "shelf" => Object::Shelf,
-            _ => bail!("no object is named {name}"),
-        };
+        let object = object_of(name)?;
         for number in numbers.split_whitespace() {
             self.fails
                 .push((object, number.parse::<u64>().context("a number")?))?;
@@ -155,16 +161,16 @@ impl Script {
         self.texts.push(Named::parse(self.alloc, equation, '=')?)?;
         let source = self.replaced(&self.source)?;
         write!(said, "{line}")?;
-        let (out, shelf) = self.play(words, source.as_bytes(), said)?;
+        let played = self.play(words, source.as_bytes(), said)?;
         for name in words.split_whitespace() {
-            self.leave(&shelf, name)?;
+            self.leave(&played.shelf, name)?;
         }
         let names = std::mem::replace(&mut self.left, Vec::new(self.alloc));
         for name in &names {
-            self.leave(&shelf, name)?;
+            self.leave(&played.shelf, name)?;
         }
         self.left = names;
-        self.last_out = String::from_str(self.alloc, str::from_utf8(out.bytes())?)?;
+        self.last_out = played.out;
         self.texts.truncate(count);
         self.fails.clear();
         self.hides_out = false;
@@ -194,6 +200,39 @@ impl Script {
             }
         }
         Ok(())
+    }
+
+    // `OBJECT WORDS`: a run for each call of the object that fails, until none does. Those are told that do not come out
+    // as the one before. No call comes behind one that fails.
+    fn run_each(&mut self, line: &str, said: &mut String) -> Result<()> {
+        let (name, words) = line.split_once(' ').context("an object and words")?;
+        let object = object_of(name)?;
+        let source = self.replaced(&self.source)?;
+        let mut last = String::new(self.alloc);
+        for call in 0..100_000u64 {
+            self.fails.push((object, call))?;
+            let mut text = String::new(self.alloc);
+            let played = self.play(words, source.as_bytes(), &mut text)?;
+            self.fails.clear();
+            let calls = played.calls(object);
+            ensure!(
+                calls <= call + 1,
+                "{name} is called behind call {call}, which fails"
+            );
+            if calls <= call {
+                self.hides_out = false;
+                write!(said, "{words}, where no call of {name} fails{text}")?;
+                return Ok(());
+            }
+            if text != last {
+                write!(
+                    said,
+                    "{words}, where {name} fails, from call {call} on{text}"
+                )?;
+                last = text;
+            }
+        }
+        bail!("{name} is called again and again");
     }
 
     // A run with each fault alone, and one with each two. Of these last only those are told that do not come out as
@@ -253,8 +292,8 @@ impl Script {
         Ok(shelf)
     }
 
-    // Runs the words over this source, tells what came of it, and gives out and the shelf as they stand then.
-    fn play(&self, words: &str, source: &[u8], said: &mut String) -> Result<(MemSink, MemShelf)> {
+    // Runs the words over this source, and tells what came of it.
+    fn play(&self, words: &str, source: &[u8], said: &mut String) -> Result<Played> {
         let words = self.words(words)?;
         let fails = self.fails_of(Object::Source, 0)?;
         let mut src = MemSource::new(source.to_vec(self.alloc)?, self.most.max(1), fails);
@@ -273,21 +312,50 @@ impl Script {
         } else {
             tell(said, "err", report)?;
         }
+        let played = Played {
+            out: String::from_str(self.alloc, str::from_utf8(out.bytes())?)?,
+            source_calls: src.calls(),
+            out_calls: out.calls(),
+            err_calls: err.calls(),
+            shelf_calls: shelf.calls().saturating_sub(self.laying()),
+            shelf,
+        };
         if self.shows_calls {
-            let shelf_calls = shelf.calls().saturating_sub(self.laying());
-            tell_calls(said, [src.calls(), out.calls(), err.calls(), shelf_calls])?;
+            played.tell_calls(said)?;
         }
-        Ok((out, shelf))
+        Ok(played)
     }
 }
 
-fn tell_calls(said: &mut String, calls: [u64; 4]) -> Result<()> {
-    let [source, out, err, shelf] = calls;
-    writeln!(
-        said,
-        "  calls: source {source}, out {out}, err {err}, shelf {shelf}"
-    )?;
-    Ok(())
+impl Played {
+    fn calls(&self, object: Object) -> u64 {
+        match object {
+            Object::Source => self.source_calls,
+            Object::Out => self.out_calls,
+            Object::Err => self.err_calls,
+            Object::Shelf => self.shelf_calls,
+        }
+    }
+
+    fn tell_calls(&self, said: &mut String) -> Result<()> {
+        let (source, out) = (self.source_calls, self.out_calls);
+        let (err, shelf) = (self.err_calls, self.shelf_calls);
+        writeln!(
+            said,
+            "  calls: source {source}, out {out}, err {err}, shelf {shelf}"
+        )?;
+        Ok(())
+    }
+}
+
+fn object_of(name: &str) -> Result<Object> {
+    Ok(match name {
+        "source" => Object::Source,
+        "out" => Object::Out,
+        "err" => Object::Err,
+        "shelf" => Object::Shelf,
+        _ => bail!("no object is named {name}"),
+    })
 }
 
 // Lays a file, in three calls, onto a shelf whose calls do not fail yet.
