@@ -10,7 +10,7 @@ CDPATH= cd -- "$(dirname -- "$0")/.."
 work=$(mktemp -d)
 trap 'rm -rf "$work"' EXIT
 python3 - "$las" "$PWD/examples" "$work" <<'END'
-import json, os, resource, signal, subprocess, sys, tempfile
+import json, os, re, resource, signal, subprocess, sys, tempfile
 las, examples, work = sys.argv[1:]
 wire_spec = open(f"{examples}/wire-spec.json").read()
 walls_spec = json.dumps(json.loads(wire_spec) | {"boxes": [[1, 1, 1]], "stabilizers": ["XZ", "ZX"]})
@@ -38,12 +38,33 @@ def leave():
     os.rmdir(os.getcwd())
 
 
+def as_nobody():
+    # the superuser may write everywhere
+    if os.geteuid() == 0:
+        os.setgroups([])
+        os.setgid(65534)
+        os.setuid(65534)
+
+
+def lay_long_log(folder):
+    # the box's clause 20 again and again, and at last the empty clause: accepted as long as it is there
+    with open(f"{folder}/las-1x1x1.log", "w") as log:
+        log.writelines(f"{number} -14 0 20 0\n" for number in range(34, 400_000))
+        log.write("400000 0 20 22 0\n")
+
+
+def remove_once_read(process, folder):
+    while int(re.search(r"rchar: (\d+)", open(f"/proc/{process.pid}/io").read())[1]) < 1_000_000:
+        pass
+    os.remove(f"{folder}/las-1x1x1.log")
+
+
 def shown(text):
     lines = " / ".join(text.splitlines()) + (" /" if text.endswith("\n") else "")
     return f"{len(text)} bytes: `{lines[:24]} ..`" if len(lines) > 40 else f"`{lines}`" if text else ""
 
 
-def run(what, words, source, wanted, out=CAPTURE, err=CAPTURE, most=None, at_start=None, within=None, before=None, stdin=None):
+def run(what, words, source, wanted, out=CAPTURE, err=CAPTURE, most=None, at_start=None, within=None, before=None, during=None, stdin=None):
     folder = within or tempfile.mkdtemp(dir=work)
     if before:
         before(folder)
@@ -51,19 +72,23 @@ def run(what, words, source, wanted, out=CAPTURE, err=CAPTURE, most=None, at_sta
         with open(f"{work}/source", "w") as file:
             file.write(source)
         stdin = open(f"{work}/source")
-    done = subprocess.run([las, *words], stdin=stdin, stdout=out, stderr=err, cwd=folder, preexec_fn=limited(most) if most else at_start)
+    process = subprocess.Popen([las, *words], stdin=stdin, stdout=out, stderr=err, cwd=folder, preexec_fn=limited(most) if most else at_start)
+    if during:
+        during(process, folder)
     texts = []
-    for stream, told in (("out", done.stdout), ("err", done.stderr)):
+    for stream, told in zip(("out", "err"), process.communicate()):
         if told is None and hasattr({"out": out, "err": err}[stream], "name"):
             name = {"out": out, "err": err}[stream].name
             told = open(name, "rb").read() if os.path.isfile(name) else b""
-        texts.append(shown((told or b"").decode()))
+        text = (told or b"").decode()
+        texts.append(shown(re.sub(r"\d+", "N", text) if during else text))
     name = f"{folder}/las-1x1x1.log"
     texts.append(shown(open(name).read()) if os.path.isfile(name) and not within else "")
-    print(f"| {what} | `{' '.join(words)}` | {done.returncode} | {' | '.join(texts)} |")
-    return done.returncode == wanted
+    print(f"| {what} | `{' '.join(words)}` | {process.returncode} | {' | '.join(texts)} |")
+    return process.returncode == wanted
 
 
+os.chmod(work, 0o755)
 print("| what fails | run | status | out | err | log |")
 print("|---|---|---|---|---|---|")
 full = open("/dev/full", "wb")
@@ -76,6 +101,7 @@ good = [
     run("in is a folder", ["check"], "", 5, stdin=os.open(work, os.O_RDONLY)),
     run("in can only be written", ["check"], "", 5, stdin=open(f"{work}/unread", "wb")),
     run("the folder takes no file (/proc)", SWEEP, wire_spec, 7, within="/proc"),
+    run("the folder may only be read", SWEEP, wire_spec, 7, at_start=as_nobody, before=lambda folder: os.chmod(folder, 0o555)),
     run("the folder is gone", SWEEP, wire_spec, 7, at_start=leave),
     run("the log's name is a folder", SWEEP, walls_spec, 7, before=lambda folder: os.mkdir(f"{folder}/las-1x1x1.log")),
     run("the log's name is a pipe", SWEEP, walls_spec, 7, before=lambda folder: os.mkfifo(f"{folder}/las-1x1x1.log")),
@@ -84,6 +110,8 @@ good = [
     run("the log may have 5 bytes", SWEEP, walls_spec, 7, most=5),
     run("err is /dev/full, behind the log", SWEEP, walls_spec, 6, err=full),
     run("the log is a folder", ["verify", "--box", "1x1x1"], walls_spec, 7, before=lambda folder: os.mkdir(f"{folder}/las-1x1x1.log")),
+    run("the log is long and stays", ["verify", "--box", "1x1x1"], walls_spec, 0, before=lay_long_log),
+    run("the log vanishes once a part of it is read", ["verify", "--box", "1x1x1"], walls_spec, 1, before=lay_long_log, during=remove_once_read),
     run("the file is a folder", ["audit", "a.json"], wire_spec, 7, before=lambda folder: os.mkdir(f"{folder}/a.json")),
     run("the file's name leads nowhere", ["audit", "a.json"], wire_spec, 2, before=lambda folder: os.symlink("b.json", f"{folder}/a.json")),
 ]
