@@ -1,10 +1,13 @@
 -- What fetches of one file have given, piece by piece.
-use Rattle.std.proofs.Common.{◌≡◌, ◌⊎◌, inl, inr, ℕ, ◌+◌, ◌<◌, ◌≤◌, Bool, true, false, List, [], ◌++◌, length, take, drop, Option, None, Some, IfSome, IsSomeAnd, is_some, unwrap_or, refl, sym, ap, ◌∙◌, subst, arith, length-append, length-take}
-use Rattle.std.proofs.lemmas.Bool.{cases_lt}
+use Rattle.std.proofs.Common.{◌≡◌, ◌⊎◌, inl, inr, ℕ, ◌+◌, ◌<◌, ◌≤◌, Bool, true, false, not, ◌==◌, Ok, Err, List, [], ◌++◌, length, take, drop, Option, None, Some, IfSome, IsSomeAnd, unwrap_or, refl, sym, ap, ◌∙◌, subst, arith, length-append, length-take}
+use Rattle.std.proofs.lemmas.Bool.{cases_lt, eqb-true, eqb-false}
 use Rattle.std.proofs.lemmas.List.{take_all}
 use Rattle.std.proofs.Math.Seq.{take-add}
 use Rattle.las_io.specs.Counts.{count_after}
-use Rattle.las_io.specs.Shelves.{File, file_of, FilesStay, IsFetched, IsFront, Fetches}
+use Rattle.las_io.specs.Shelves.{File, file_of, FilesStay, IsFetched, IsFront, Fetches, FetchesUpTo}
+use Rattle.las_io.specs.Fetches.{IsFetch, IsFailedFetch, IsWholeFile, IsLongFile, EndsFetches}
+use Rattle.las_io.specs.declared.whole_file.FetchRefused.{FetchRefused}
+use Rattle.las_io.specs.declared.whole_file.FetchRefused.TheVariants.{ShelfFault, TooLong, Memory}
 use Rattle.las_io.proofs.Given.{count_after-twice, count_after-zero}
 
 -- files that stay twice, and what is known of them afterwards
@@ -92,26 +95,14 @@ module _ {H : Type 0} (files : H → Option (List File)) (begun : H → Option (
     found = λ some. absurd (omega arith);
   })
 
-  -- one fetch of the file, from place `at`, with its answer
-  pub record IsFetch (name : List ℕ) (mid after : H) (at : ℕ) (buf : List ℕ) (answer : Option ℕ) : Type 0 where
-    pub bytes : IfSome (files mid) (λ fs. IsFetched (file_of fs name) at buf answer)
-    pub found : finds mid name (is_some answer)
-    pub stay : FilesStay (files mid) (files after)
-    pub none_begun : begun after ≡ None
-    pub count : given after ≡ count_after (given mid) (unwrap_or answer 0)
-
-  pub is_fetch : (name : List ℕ) (mid after : H) (place : ℕ) (bytes buf : List ℕ) (answer known : Option ℕ) → answer ≡ known → place ≡ length bytes
-      → IfSome (files mid) (λ fs. IsFetched (file_of fs name) place buf answer) → finds mid name (is_some answer) → FilesStay (files mid) (files after)
-      → begun after ≡ None → given after ≡ count_after (given mid) (unwrap_or answer 0) → IsFetch name mid after (length bytes) buf known
-  is_fetch name mid after place bytes buf answer known is here fetched found stay none count =
-      let fetch : IsFetch name mid after place buf answer = record { bytes = fetched; found = found; stay = stay; none_begun = none; count = count } in
-      let P : ℕ → Type 0 = λ k. IsFetch name mid after k buf answer in
-      let Q : Option ℕ → Type 0 = λ o. IsFetch name mid after (length bytes) buf o in
-      subst Q is (subst P here fetch)
+  -- a fetch whose answer is known
+  pub fetch_of : (name : List ℕ) (before after : H) (place : ℕ) (buf : List ℕ) (answer known : Option ℕ) → answer ≡ known
+      → IsFetch files begun finds given name before after place buf answer → IsFetch files begun finds given name before after place buf known
+  fetch_of name before after place buf answer known is fetch = subst (IsFetch files begun finds given name before after place buf) is fetch
 
   -- what a fetch finds at any moment was so at first
   pub found_so : (name : List ℕ) (before mid after : H) (bytes buf : List ℕ) (n : ℕ) → IsUnderWay name before mid bytes
-      → IsFetch name mid after (length bytes) buf (Some n) → finds before name true
+      → IsFetch files begun finds given name mid after (length bytes) buf (Some n) → finds before name true
   found_so name before mid after bytes buf n way fetch = at (cases_lt 0 (length bytes))
     where
       at : (0 < length bytes) ⊎ (length bytes ≤ 0) → finds before name true
@@ -120,9 +111,9 @@ module _ {H : Type 0} (files : H → Option (List File)) (begun : H → Option (
 
   -- a fetch that gives n bytes
   pub goes_on : (name : List ℕ) (before mid after : H) (bytes buf : List ℕ) (n : ℕ) → IsUnderWay name before mid bytes
-      → IsFetch name mid after (length bytes) buf (Some n) → n ≤ length buf → 0 < n → IsUnderWay name before after (bytes ++ take n buf)
-  goes_on name before mid after bytes buf n way fetch bound some =
-      let both : length bytes + n ≡ length (bytes ++ take n buf) = omega (arith, length-append {A = ℕ}, length-take {A = ℕ}) in record {
+      → IsFetch files begun finds given name mid after (length bytes) buf (Some n) → 0 < n → IsUnderWay name before after (bytes ++ take n buf)
+  goes_on name before mid after bytes buf n way fetch some =
+      let both : length bytes + n ≡ length (bytes ++ take n buf) = omega (arith, fetch.within, length-append {A = ℕ}, length-take {A = ℕ}) in record {
         came = record {
           counted = fetch.count ∙ ap (λ k. count_after k n) way.came.counted ∙ count_after-twice (given before) (length bytes) n ∙ ap (count_after (given before)) both;
           front = both_told _ _ _ (files before) (λ fs p q. front_grows (file_of fs name) bytes buf n p q) way.came.front (told_before _ (files before) (files mid) way.stay fetch.bytes);
@@ -135,24 +126,24 @@ module _ {H : Type 0} (files : H → Option (List File)) (begun : H → Option (
 
   -- a fetch that gives no byte is the end of the file
   pub ends : (name : List ℕ) (before mid after : H) (bytes buf : List ℕ) (n : ℕ) → IsUnderWay name before mid bytes
-      → IsFetch name mid after (length bytes) buf (Some n) → n ≡ 0 → 1 ≤ length buf → IfSome (files before) (λ fs. file_of fs name ≡ Some bytes)
+      → IsFetch files begun finds given name mid after (length bytes) buf (Some n) → n ≡ 0 → 1 ≤ length buf → IfSome (files before) (λ fs. file_of fs name ≡ Some bytes)
   ends name before mid after bytes buf n way fetch none room =
       both_told _ _ _ (files before) (λ fs p q. front_ends (file_of fs name) bytes buf n none room p q) way.came.front (told_before _ (files before) (files mid) way.stay fetch.bytes)
 
   -- a fetch that finds no file is the first, where the files are told
   pub absent : (name : List ℕ) (before mid after : H) (bytes buf : List ℕ) → IsUnderWay name before mid bytes
-      → IsFetch name mid after (length bytes) buf None → IfSome (files before) (λ fs. file_of fs name ≡ None)
+      → IsFetch files begun finds given name mid after (length bytes) buf None → IfSome (files before) (λ fs. file_of fs name ≡ None)
   absent name before mid after bytes buf way fetch =
       one_told _ _ (files before) (λ fs q. front_absent (file_of fs name) (length bytes) buf q) (told_before _ (files before) (files mid) way.stay fetch.bytes)
 
   pub ends_early : (name : List ℕ) (before mid after : H) (bytes buf : List ℕ) → IsUnderWay name before mid bytes
-      → IsFetch name mid after (length bytes) buf None → 0 < length bytes → IfSome (files before) (λ fs. file_of fs name ≡ Some bytes)
+      → IsFetch files begun finds given name mid after (length bytes) buf None → 0 < length bytes → IfSome (files before) (λ fs. file_of fs name ≡ Some bytes)
   ends_early name before mid after bytes buf way fetch some =
       both_told _ _ _ (files before) (λ fs p q. front_lost (file_of fs name) bytes buf some p q) way.came.front (told_before _ (files before) (files mid) way.stay fetch.bytes)
 
   -- a fetch that gives nothing leaves what came
   pub none_came : (name : List ℕ) (before mid after : H) (bytes buf : List ℕ) (answer : Option ℕ) → IsUnderWay name before mid bytes
-      → IsFetch name mid after (length bytes) buf answer → unwrap_or answer 0 ≡ 0 → Fetches files given name before after bytes
+      → IsFetch files begun finds given name mid after (length bytes) buf answer → unwrap_or answer 0 ≡ 0 → Fetches files given name before after bytes
   none_came name before mid after bytes buf answer way fetch none = record {
     counted = fetch.count ∙ count_after-zero (given mid) (unwrap_or answer 0) none ∙ way.came.counted;
     front = way.came.front;
@@ -160,22 +151,77 @@ module _ {H : Type 0} (files : H → Option (List File)) (begun : H → Option (
 
   -- a first fetch that finds no file
   pub found_none : (name : List ℕ) (before mid after : H) (bytes buf : List ℕ) → IsUnderWay name before mid bytes
-      → IsFetch name mid after (length bytes) buf None → length bytes ≡ 0 → finds before name false
+      → IsFetch files begun finds given name mid after (length bytes) buf None → length bytes ≡ 0 → finds before name false
   found_none name before mid after bytes buf way fetch first = subst (λ s. finds s name false) (way.first first) fetch.found
 
   pub nothing_came : (name : List ℕ) (before mid after : H) (bytes buf : List ℕ) → IsUnderWay name before mid bytes
-      → IsFetch name mid after (length bytes) buf None → length bytes ≡ 0 → Fetches files given name before after []
+      → IsFetch files begun finds given name mid after (length bytes) buf None → length bytes ≡ 0 → Fetches files given name before after []
   nothing_came name before mid after bytes buf way fetch first = record {
     counted = (none_came name before mid after bytes buf None way fetch refl).counted ∙ ap (count_after (given before)) first;
     front = all_front (files before) name;
   }
 
   -- a fetch that failed gives nothing
-  pub none_failed : (name : List ℕ) (before mid after : H) (bytes : List ℕ) → IsUnderWay name before mid bytes
-      → given after ≡ given mid → Fetches files given name before after bytes
-  none_failed name before mid after bytes way same = record { counted = same ∙ way.came.counted; front = way.came.front }
+  pub none_failed : (name : List ℕ) (before mid after : H) (bytes : List ℕ) (most : ℕ) → IsUnderWay name before mid bytes
+      → IsFailedFetch files begun finds given mid after → length bytes ≤ most → FetchesUpTo files given name before after most
+  none_failed name before mid after bytes most way failed few = record {
+    bytes = bytes;
+    came = record { counted = failed.count ∙ way.came.counted; front = way.came.front };
+    within = few;
+  }
+
+  -- bytes that came, and for which there was no memory
+  pub came_in_vain : (name : List ℕ) (before mid after : H) (bytes buf : List ℕ) (n limit : ℕ) → IsUnderWay name before mid bytes
+      → IsFetch files begun finds given name mid after (length bytes) buf (Some n) → 0 < n → length bytes + length buf ≤ limit + 1
+      → FetchesUpTo files given name before after (limit + 1)
+  came_in_vain name before mid after bytes buf n limit way fetch some room = record {
+    bytes = bytes ++ take n buf;
+    came = (goes_on name before mid after bytes buf n way fetch some).came;
+    within = omega (arith, fetch.within, length-append {A = ℕ}, length-take {A = ℕ});
+  }
+
+  -- a fetch that gives no byte: the file is whole
+  pub file_ends : (name : List ℕ) (before mid after : H) (bytes buf : List ℕ) (n limit : ℕ) → IsUnderWay name before mid bytes
+      → IsFetch files begun finds given name mid after (length bytes) buf (Some n) → n ≡ 0 → 1 ≤ length buf → length bytes ≤ limit
+      → IsWholeFile files begun finds given name before after limit bytes
+  file_ends name before mid after bytes buf n limit way fetch none room few = record {
+    came = none_came name before mid after bytes buf (Some n) way fetch none;
+    told = ends name before mid after bytes buf n way fetch none room;
+    found = found_so name before mid after bytes buf n way fetch;
+    within = few;
+  }
+
+  -- a fetch that finds no file: there was none, or it ended early
+  pub file_gone : (name : List ℕ) (before mid after : H) (bytes buf : List ℕ) (limit : ℕ) (empty : Bool) → IsUnderWay name before mid bytes
+      → IsFetch files begun finds given name mid after (length bytes) buf None → length bytes ≤ limit → empty ≡ (length bytes == 0)
+      → EndsFetches files begun finds given name before after limit bytes (Ok (not empty))
+  file_gone name before mid after bytes buf limit true way fetch few e =
+      let none : length bytes ≡ 0 = eqb-true (length bytes) 0 (sym e) in record {
+        came = nothing_came name before mid after bytes buf way fetch none;
+        told = absent name before mid after bytes buf way fetch;
+        found = found_none name before mid after bytes buf way fetch none;
+      }
+  file_gone name before mid after bytes buf limit false way fetch few e =
+      let other : length bytes ≡ 0 → ⊥ = eqb-false (length bytes) 0 (sym e) in
+      let some : 0 < length bytes = omega arith in record {
+        came = none_came name before mid after bytes buf None way fetch refl;
+        told = ends_early name before mid after bytes buf way fetch some;
+        found = way.found some;
+        within = few;
+      }
 
   -- bytes past the limit are of a file that is longer
-  pub is_longer : (name : List ℕ) (before now : H) (bytes : List ℕ) (limit : ℕ) → IsUnderWay name before now bytes → length bytes ≡ limit + 1
-      → IfSome (files before) (λ fs. IsSomeAnd (file_of fs name) (λ xs. limit < length xs))
-  is_longer name before now bytes limit way long = one_told _ _ (files before) (λ fs p. front_long (file_of fs name) bytes limit long p) way.came.front
+  pub too_long : (name : List ℕ) (before now : H) (bytes : List ℕ) (limit : ℕ) → IsUnderWay name before now bytes → length bytes ≡ limit + 1
+      → IsLongFile files begun finds given name before now limit
+  too_long name before now bytes limit way long = record {
+    came = record { bytes = bytes; came = way.came; exact = long };
+    longer = one_told _ _ (files before) (λ fs p. front_long (file_of fs name) bytes limit long p) way.came.front;
+    found = way.found (omega arith);
+  }
+
+  -- whatever the refusal, the limit and one byte more came at most
+  pub refused_most : (name : List ℕ) (before now : H) (limit : ℕ) (bytes : List ℕ) (refused : FetchRefused)
+      → EndsFetches files begun finds given name before now limit bytes (Err refused) → FetchesUpTo files given name before now (limit + 1)
+  refused_most name before now limit bytes ShelfFault ends = record { bytes = ends.bytes; came = ends.came; within = omega (arith, ends.within) }
+  refused_most name before now limit bytes TooLong ends = record { bytes = ends.came.bytes; came = ends.came.came; within = omega (arith, ends.came.exact) }
+  refused_most name before now limit bytes Memory ends = ends

@@ -2,3 +2,4 @@ pub mod Fetched
 pub mod Given
 pub mod Pieces
 pub mod Places
+pub mod Rises

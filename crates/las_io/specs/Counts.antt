@@ -1,5 +1,5 @@
 -- Counts of bytes and of faults, which stop at the last value of u64.
-use Rattle.std.specs.Prelude.{◌≡◌, ℕ, ◌+◌, ◌-◌, ◌^◌, ◌≤◌, min, Result, OnErr, IsErrOf, MatchResult}
+use Rattle.std.specs.Prelude.{◌≡◌, ◌⊎◌, ℕ, ◌+◌, ◌-◌, ◌^◌, ◌<◌, ◌≤◌, min, Result, OnErr, IsErrOf, MatchResult}
 use Rattle.las_io.specs.declared.traits.IoBad.{IoBad}
 use Rattle.las_io.specs.declared.traits.IoBad.TheVariants.{Failed}
 
@@ -9,7 +9,7 @@ count_after before n = before + min n (2 ^ 64 - 1 - before)
 
 -- the count rose, or it stands at the last value of u64
 abbrev pub Rose : ℕ → ℕ → Type 0
-Rose before now = count_after before 1 ≤ now
+Rose before now = (before < now) ⊎ (now ≡ 2 ^ 64 - 1)
 
 -- a read counted the n bytes that it gave at `Ok(n)`, and nothing at `Err`
 abbrev pub ReadCounts : {E : Type 0} → ℕ → ℕ → Result ℕ E → Type 0

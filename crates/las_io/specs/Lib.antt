@@ -1,4 +1,5 @@
 pub mod Counts
+pub mod Fetches
 pub mod Moves
 pub mod Names
 pub mod Scripts

@@ -1,6 +1,6 @@
 // The files of one folder, as a shelf that tells no contents.
 ghost use Rattle.std.specs.Prelude.{◌≡◌, ◌<◌, ◌≤◌, ⊤, length, is_some, IsSome, IsTrue, None, Some, IfOk, IfSome, MatchResult, unwrap_or, string_bytes};
-ghost use Rattle.las_io.specs.Counts.{HasFaultCause};
+ghost use Rattle.las_io.specs.Counts.{HasFaultCause, Rose};
 ghost use Rattle.las_io.specs.Names.{is_lawful_name};
 ghost use Rattle.las_io.specs.Shelves.{FetchCounts, begun_after};
 ghost use Rattle.las_io.specs.Streams.{folder_after_fault};
@@ -66,9 +66,12 @@ impl<R: Files + Drop> DirShelf<R> {
         format!(in self.alloc; "{folder}/{name}")
     }
 
+    #[tactic(auto, using(crate::proofs::Rises::rose_by))]
     fn count_fault(&mut self) -> IoBad
         ensures is { result ≡ IoBad.Failed }
         ensures after { self.new ≡ folder_after_fault self.old }
+        ensures rose { Rose self.old.faults self.new.faults }
+        ensures later { self.old.faults ≤ self.new.faults }
     {
         self.faults = self.faults.saturating_add(1);
         IoBad::Failed

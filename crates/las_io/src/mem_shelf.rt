@@ -150,7 +150,8 @@ impl Shelf for MemShelf {
     ghost faults = { λ s. s.faults };
 
     fn begun(&self) -> bool
-        ensures { result ≡ is_some self.now.begun }
+        ensures is { result ≡ is_some self.now.begun }
+        ensures names { HasNames self.now.files }
     {
         self.begun.is_some()
     }
@@ -204,6 +205,7 @@ impl Shelf for MemShelf {
     fn finish(&mut self) -> Result<(), IoBad>
         requires { IsSome self.old.begun }
         ensures files { FilesStay (Some self.old.files) (Some self.new.files) }
+        ensures names { HasNames self.new.files }
         ensures begun { self.new.begun ≡ None }
         ensures count { self.new.given ≡ self.old.given }
         ensures cause { HasFaultCause self.old.faults self.new.faults result }
@@ -230,6 +232,7 @@ impl Shelf for MemShelf {
             IsFetched (file_of self.old.files name.now) at buf.new answer) }
         ensures found { IfOk result (λ answer. is_some answer ≡ is_some (file_of self.old.files name.now)) }
         ensures files { FilesStay (Some self.old.files) (Some self.new.files) }
+        ensures names { HasNames self.new.files }
         ensures begun { self.new.begun ≡ None }
         ensures count { FetchCounts self.old.given self.new.given result }
         ensures cause { HasFaultCause self.old.faults self.new.faults result }

@@ -57,7 +57,8 @@ pub trait Sink {
 /// Files by their names. One at a time is begun, grown piece by piece and finished; the others can be
 /// fetched while none is begun.
 pub trait Shelf {
-    /// The files, of distinct names, where the shelf tells them.
+    /// The files, where the shelf tells them; then their names are lawful and distinct, as each call says of
+    /// the files that it leaves. A shelf that tells its files before a call tells them after it.
     ghost files: { Self → Option (List File) };
 
     /// The name of the file that is begun.
@@ -74,7 +75,8 @@ pub trait Shelf {
 
     /// Whether a file is begun.
     fn begun(&self) -> bool
-        ensures { result ≡ is_some (begun_name self.now) };
+        ensures is { result ≡ is_some (begun_name self.now) }
+        ensures names { IfSome (files self.now) HasNames };
 
     /// Empties the file of this name, or makes it, and begins it. After `Failed` it is as before, empty
     /// or absent, and nothing is begun.
@@ -101,6 +103,7 @@ pub trait Shelf {
     fn finish(&mut self) -> Result<(), IoBad>
         requires { IsSome (begun_name self.old) }
         ensures files { FilesStay (files self.old) (files self.new) }
+        ensures names { IfSome (files self.new) HasNames }
         ensures begun { begun_name self.new ≡ None }
         ensures count { given self.new ≡ given self.old }
         ensures cause { HasFaultCause (faults self.old) (faults self.new) result };
@@ -116,6 +119,7 @@ pub trait Shelf {
             IsFetched (file_of fs name.now) at buf.new answer)) }
         ensures found { IfOk result (λ answer. finds self.old name.now (is_some answer)) }
         ensures files { FilesStay (files self.old) (files self.new) }
+        ensures names { IfSome (files self.new) HasNames }
         ensures begun { begun_name self.new ≡ None }
         ensures count { FetchCounts (given self.old) (given self.new) result }
         ensures cause { HasFaultCause (faults self.old) (faults self.new) result };

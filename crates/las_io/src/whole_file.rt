@@ -1,6 +1,7 @@
 // Whole files, fetched from any shelf.
 ghost use Rattle.std.specs.Prelude.{◌≡◌, ◌+◌, ◌^◌, ◌<◌, ◌≤◌, [], true, None, is_some, option_map, unwrap_or, vec_items, vec_len, length, IsTrue, IfOk, IfSome, IsErrOf, IsSomeAnd};
-ghost use Rattle.las_io.specs.Counts.{Rose};
+ghost use Rattle.las_io.specs.Counts.{HasFaultCause, Rose};
+ghost use Rattle.las_io.specs.Fetches.{AnswersFetch, EndsFetches};
 ghost use Rattle.las_io.specs.Names.{is_lawful_name};
 ghost use Rattle.las_io.specs.Shelves.{Fetches, FetchesCount, FetchesUpTo, FilesStay, file_of};
 ghost use Rattle.las_io.specs.declared.whole_file.FetchRefused.TheVariants.{Memory};
@@ -68,27 +69,65 @@ pub fn fetch_all<H: Shelf>(
 {
     let mut all: Vec<u8> = Vec::new(alloc);
     let mut piece = vec![in alloc; 0u8; PIECE]?;
+    match fetch_pieces(shelf, name, limit, piece.as_mut_slice(), &mut all) {
+        Ok(true) => Ok(Some(all)),
+        Ok(false) => Ok(None),
+        Err(refused) => Err(refused),
+    }
+}
+
+// Fetches pieces of the file to the end of `all`, up to the file's end, and says whether there is such a file.
+fn fetch_pieces<H: Shelf>(
+    shelf: &mut H,
+    name: &str,
+    limit: usize,
+    piece: &mut [u8],
+    all: &mut Vec<u8>,
+) -> Result<bool, FetchRefused>
+    requires lawful { IsTrue (is_lawful_name name.now) }
+    requires none_begun { H.begun_name shelf.old ≡ None }
+    requires limit { limit < 2 ^ 32 }
+    requires room { 1 ≤ length piece.old }
+    requires empty { all.old.items ≡ [] }
+    ensures end { EndsFetches H.files H.begun_name H.finds H.given name.now shelf.old shelf.new limit all.new.items result }
+    ensures files { FilesStay (H.files shelf.old) (H.files shelf.new) }
+    ensures begun { H.begun_name shelf.new ≡ None }
+    ensures shelf_fault { IsErrOf result FetchRefused.ShelfFault
+        → Rose (H.faults shelf.old) (H.faults shelf.new) }
+    ensures faults { H.faults shelf.old ≤ H.faults shelf.new }
+{
     while all.len() <= limit {
         let room = (limit + 1 - all.len()).min(piece.len());
         let part = &mut piece[..room];
-        let answer = match shelf.fetch(name, all.len() as u64, part) {
-            Ok(answer) => answer,
+        let count = match fetch_next(shelf, name, all, part) {
+            Ok(Some(count)) => count,
+            Ok(None) => return Ok(!all.is_empty()),
             Err(IoBad::Failed) => return Err(FetchRefused::ShelfFault),
             Err(IoBad::Memory) => return Err(FetchRefused::Memory),
         };
-        let count = match answer {
-            Some(count) => count,
-            None => {
-                if all.is_empty() {
-                    return Ok(None);
-                }
-                return Ok(Some(all));
-            }
-        };
         if count == 0 {
-            return Ok(Some(all));
+            return Ok(true);
         }
-        all.extend_from_slice(&part[..count])?;
+        match all.extend_from_slice(&part[..count]) {
+            Ok(()) => {}
+            Err(_) => return Err(FetchRefused::Memory),
+        }
     }
     Err(FetchRefused::TooLong)
+}
+
+// Fetches the bytes of the file that follow these.
+fn fetch_next<H: Shelf>(
+    shelf: &mut H,
+    name: &str,
+    all: &Vec<u8>,
+    part: &mut [u8],
+) -> Result<Option<usize>, IoBad>
+    requires lawful { IsTrue (is_lawful_name name.now) }
+    requires none_begun { H.begun_name shelf.old ≡ None }
+    ensures len { length part.new ≡ length part.old }
+    ensures fetch { AnswersFetch H.files H.begun_name H.finds H.given name.now shelf.old shelf.new (length all.now.items) part.new result }
+    ensures cause { HasFaultCause (H.faults shelf.old) (H.faults shelf.new) result }
+{
+    shelf.fetch(name, all.len() as u64, part)
 }

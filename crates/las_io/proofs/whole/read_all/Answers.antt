@@ -1,5 +1,6 @@
 use Rattle.std.proofs.Common.{rules, arith, ℕ, take, ◌++◌, length-append, length-take}
 use Rattle.las_io.proofs.Given.{nothing_came, none_more, more_came, no_byte_came, all_was_left}
+use Rattle.las_io.proofs.Rises.{rose_through}
 use Rattle.las_io.proofs.whole.read_all.Goals as goal
 
 pub loop-all-init : goal.loop-all-init
@@ -9,6 +10,9 @@ loop-all-init g c = record {
   came = nothing_came _ _ _ _ c.new-all.ensures.items;
   faults = omega arith;
 }
+
+pub returns-in-Err-clause-read_fault : goal.returns-in-Err-clause-read_fault
+returns-in-Err-clause-read_fault g c = λ _. rose_through _ _ _ c.loop-all.invariant.faults c.in-Err.ensures.cause.failed
 
 pub returns-in-Err-clause-before_fault : goal.returns-in-Err-clause-before_fault
 returns-in-Err-clause-before_fault g c = λ _. record {
