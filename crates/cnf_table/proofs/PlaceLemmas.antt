@@ -8,7 +8,7 @@ use Rattle.las_base.specs.declared.Axis.TheVariants.{I, J, K}
 use Rattle.las_base.specs.declared.Way.{Way}
 use Rattle.las_base.specs.declared.Way.TheVariants.{Plus, Minus}
 use Rattle.las_base.specs.declared.Cell.{Cell}
-use Rattle.las_base.specs.Axes.{axes, same_axis}
+use Rattle.las_base.specs.Axes.{axes, same_axis, same_way}
 use Rattle.las_base.specs.Cells.{holds, cells, above}
 use Rattle.las_base.specs.Jobs.{Task, is_port_place}
 use Rattle.las_base.proofs.Blocks.{all_held}
@@ -18,7 +18,7 @@ use Rattle.grid_box.specs.Drawings.{Drawing, IsDrawing, pipe_at}
 use Rattle.grid_box.specs.Legs.{Position, PipeEnd, positions, pipe_end_at, end_of_way, has_leg_along, kinds_on, kind_on}
 use Rattle.grid_box.specs.PipeRules.{is_only, is_bare, same_end, all_one_kind, everywhere, stays_in_box, stays_along}
 use Rattle.grid_box.proofs.StayLemmas.{stays_by_axes}
-use Rattle.cnf_table.specs.Positions.{low_of, inner_cells, same_position, same_way}
+use Rattle.cnf_table.specs.Positions.{low_of, inner_cells, same_position}
 use Rattle.cnf_table.proofs.ListLemmas.{same_where}
 use Rattle.cnf_table.proofs.CellLemmas.{all_of, held_wide, above_low}
 use Rattle.cnf_table.proofs.LinkLemmas.{stands, end_told, pipe_held}
