@@ -15,7 +15,7 @@ use crate::names::log_name;
 use crate::{SweepRefused, Verdict};
 use clause_log::{LogWriter, begin_log};
 use cnf_base::Formula;
-use cnf_encode::decode;
+use cnf_decode::decode;
 use las_io::Shelf;
 use las_spec::Job;
 use sat_core::{Outcome, solve};

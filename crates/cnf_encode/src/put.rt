@@ -2,15 +2,14 @@
 ghost use Rattle.std.specs.Prelude.{◌≡◌, ◌≤◌, ◌<◌, [], ◌∷◌, true, false, not};
 ghost use Rattle.las_base.specs.Cells.{holds};
 ghost use Rattle.cnf_base.specs.Literals.{are_below};
-ghost use Rattle.cnf_encode.specs.Clauses.{colour_clauses_of, kinds_agree, not_all_three, shared_normal, y_sheet_clauses_of};
+ghost use Rattle.cnf_table.specs.Clauses.{colour_clauses_of, kinds_agree, not_all_three, shared_normal, y_sheet_clauses_of};
 ghost use Rattle.cnf_encode.specs.Emits.{Emits};
-ghost use Rattle.cnf_encode.specs.Layouts.{plan_vars};
-ghost use Rattle.cnf_encode.specs.Positions.{exists_in};
-ghost use Rattle.cnf_encode.specs.Variables.{pipe_literal, y_literal};
+ghost use Rattle.cnf_table.specs.Layouts.{plan_vars};
+ghost use Rattle.cnf_table.specs.Positions.{exists_in};
+ghost use Rattle.cnf_table.specs.Variables.{pipe_literal, y_literal};
 
-use crate::Layout;
-use crate::positions::Position;
 use cnf_base::{ClauseTake, Lit};
+use cnf_table::{Layout, Position};
 use las_base::{Axis, Cell};
 use std::alloc::AllocError;
 

@@ -2,16 +2,16 @@
 ghost use Rattle.std.specs.Prelude.{◌≡◌, ◌≤◌, ◌<◌, ◌++◌, length, OnErr, OnOk, IfOk};
 ghost use Rattle.std.specs.List.{enumerate_from, flat_map};
 ghost use Rattle.las_base.specs.Jobs.{IsTask};
-ghost use Rattle.cnf_encode.specs.Clauses.{clause_table, diagram_clauses, flow_clauses};
+ghost use Rattle.cnf_table.specs.Clauses.{clause_table, diagram_clauses, flow_clauses};
 ghost use Rattle.cnf_encode.specs.Emits.{Emits, TookFirstPart};
-ghost use Rattle.cnf_encode.specs.Layouts.{plan_of, plan_vars};
-ghost use Rattle.cnf_encode.specs.Variables.{var_count};
+ghost use Rattle.cnf_table.specs.Layouts.{plan_of, plan_vars};
+ghost use Rattle.cnf_table.specs.Variables.{var_count};
 
-use crate::Layout;
 use crate::inner::{InnerGroup, put_inner};
 use crate::pipes::{PipeGroup, put_pipes};
 use crate::ports::{each_forbidden, each_letter, each_port, each_port_colour};
 use cnf_base::ClauseTake;
+use cnf_table::Layout;
 use las_base::Pauli;
 use las_spec::Job;
 use std::alloc::AllocError;

@@ -1,7 +1,8 @@
-// Known jobs: the clauses that are given, and values that are decoded.
-use crate::{cnf_vars, decode, encode};
-use cnf_base::{Formula, satisfies};
-use las_base::{Axis, Cell, Kind, Pauli, Port, Size, Way};
+// Known jobs, and how many clauses are given.
+use crate::encode;
+use cnf_base::Formula;
+use cnf_table::cnf_vars;
+use las_base::{Axis, Cell, Pauli, Port, Size, Way};
 use las_spec::{FlowWord, make_job};
 use std::alloc::{AllocError, Global};
 use std::test::Fail;
@@ -48,30 +49,6 @@ fn y_port_has_43_clauses(rt: HostRuntime) -> Result<(), Fail> {
     assert_eq!(rt; formula.len(), 43);
     Ok(())
 }
-
-#[test]
-fn wire_is_decoded(rt: HostRuntime) -> Result<(), Fail> {
-    let xx = FlowWord::new(vec![in rt.alloc(); Pauli::X, Pauli::X]?);
-    let zz = FlowWord::new(vec![in rt.alloc(); Pauli::Z, Pauli::Z]?);
-    let job = make_job(rt.alloc(), ONE, &[LOWER, UPPER], &[xx, zz], &[])?;
-    let mut formula = Formula::new(rt.alloc(), cnf_vars(&job));
-    let layout = encode(&job, &mut formula)?;
-    let mut values = vec![in rt.alloc(); false; layout.vars() as usize]?;
-    for number in [3, 12, 19] {
-        assert!(rt; number < values.len());
-        values[number] = true;
-    }
-    assert_eq!(rt; values.len(), layout.vars() as usize);
-    assert!(rt; satisfies(&formula, &values));
-    let (diagram, sheets) = decode(rt.alloc(), &job, &layout, &values)?;
-    assert_eq!(rt; diagram.pipe(Axis::K, ORIGIN), Some((Kind::X, Kind::X)));
-    assert!(rt;
-        sheets.has(0, Axis::K, ORIGIN, Axis::I) && !sheets.has(0, Axis::K, ORIGIN, Axis::J)
-    );
-    assert!(rt; sheets.has(1, Axis::K, ORIGIN, Axis::J));
-    Ok(())
-}
-
 // A port on the far K face of a box of 8 x 8 x 8 cells, by its number.
 fn port(number: u32) -> Port {
     Port {

@@ -9,7 +9,7 @@ use Rattle.las_spec.specs.Briefs.{Brief}
 use Rattle.las_base.proofs.Same.{any_at, same_size-refl}
 use Rattle.cnf_base.specs.Literals.{Cnf, IsRefuted}
 use Rattle.cnf_base.specs.Logs.{LogStep, Tail, LogEnd, Malformed, Limit}
-use Rattle.cnf_encode.specs.Clauses.{clause_table}
+use Rattle.cnf_table.specs.Clauses.{clause_table}
 use Rattle.clause_log.specs.Pieces.{bytes_from, log_told, read_to_limit}
 use Rattle.clause_log.specs.Steps.{Ahead, Follows, ahead_of, tail_of}
 use Rattle.box_sweep.specs.Lines.{log_name}

@@ -11,7 +11,7 @@ use Rattle.las_spec.specs.Briefs.{Brief, job_of, spec_of}
 use Rattle.las_spec.specs.Texts.{refusal_text}
 use Rattle.cnf_base.specs.Literals.{Cnf}
 use Rattle.cnf_base.specs.Logs.{LogStep, Tail}
-use Rattle.cnf_encode.specs.Clauses.{clause_table}
+use Rattle.cnf_table.specs.Clauses.{clause_table}
 use Rattle.clause_log.specs.Pieces.{read_to_limit}
 use Rattle.box_sweep.specs.Lines.{log_name}
 use Rattle.las_top.specs.declared.run.Status.{Status}

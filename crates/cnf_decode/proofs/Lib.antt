@@ -1,0 +1,4 @@
+pub mod PassedLemmas
+pub mod DecodeLemmas
+pub mod DecodedLemmas
+pub mod AgreeLemmas

@@ -1,0 +1,14 @@
+pub mod Tables
+pub mod ListLemmas
+pub mod CellLemmas
+pub mod ParityLemmas
+pub mod LinkLemmas
+pub mod LiteralLemmas
+pub mod CellTables
+pub mod PlaceLemmas
+pub mod DiagramLemmas
+pub mod JointTables
+pub mod SheetLemmas
+pub mod ValueLemmas
+pub mod TableLemmas
+pub mod LayoutLemmas

@@ -1,0 +1,9 @@
+pub mod Positions
+pub mod Variables
+pub mod Clauses
+pub mod Values
+pub mod Parity
+pub mod Shown
+pub mod Exact
+pub mod Layouts
+pub mod Examples
