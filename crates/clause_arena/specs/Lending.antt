@@ -9,9 +9,9 @@ use Rattle.clause_arena.specs.Words.{clauses_in, overwritten, lits_place}
 
 -- the arena ends with the clause's literals as they were left
 abbrev pub LendsLits : MutBor (List Lit) → ℕ → MutBor (List Lit) → Fml
-LendsLits s at r = Lends the_row (Array lit.the_row 0) s r (λ w. overwritten s.now (lits_place s.now at) w)
+LendsLits s at r = Lends the_row (Array lit.the_row 0) s r (λ w. overwritten s.now (lits_place at) w)
 
 -- other literals in a live clause, as many as it has, change that clause's literals and nothing else
 abbrev pub LitsChanged : Type 0
 LitsChanged = (ws : List Lit) (r : ℕ) (lits : List Lit) → is_live (clauses_in ws) r ≡ true → length lits ≡ length (lits_of (clauses_in ws) r)
-    → clauses_in (overwritten ws (lits_place ws r) lits) ≡ with_lits (clauses_in ws) r lits
+    → clauses_in (overwritten ws (lits_place r) lits) ≡ with_lits (clauses_in ws) r lits

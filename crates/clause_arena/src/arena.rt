@@ -1,7 +1,8 @@
-//! The block of words. A clause is its literals and, behind them, eight words: how many literals there
-//! are, its marks, its id and its two links, each of the last three in two words, the low one first. A
-//! clause is named by the place of the first of these eight, so that the block can be read from its end
-//! whatever the literals are.
+//! The block of words. A clause is eight words and, behind them, its literals: how many literals there are,
+//! its marks, its id and its two links, each of the last three in two words, the low one first. A clause is
+//! named by the place of the first of these eight. So its links and its first two literals, which are all that
+//! most visits read, stand side by side. Behind the literals their number stands once more, so that the block
+//! can be read from its end whatever the literals are.
 
 ghost use Rattle.std.specs.Prelude.{◌≡◌, ◌<◌, ◌≤◌, ◌+◌, ◌%◌, ◌/◌, ◌^◌, IfOk, OnOk, OnErr, [], ◌∷◌, length, vec_len, true, false, slice_set, map};
 ghost use Rattle.std.specs.Borrow.{sem};
@@ -50,17 +51,17 @@ impl Arena {
         self.append(id, lits, lits.len() as u32)
     }
 
-    // Puts a clause of n literals behind all others. Its place is behind its literals.
+    // Puts a clause of n literals behind all others.
     fn append(&mut self, id: u64, lits: &[Lit], n: u32) -> Result<ClauseRef, AllocError>
         requires { n ≡ length lits.now }
         ensures ok { IfOk result (λ r. clauses_in self.new ≡ added r.0 id lits.now ∷ clauses_in self.old) }
         ensures fresh { IfOk result (λ r. is_live (clauses_in self.old) r.0 ≡ false) }
-        ensures place { IfOk result (λ r. r.0 ≡ length self.old + length lits.now) }
-        ensures long { IfOk result (λ r. length self.new ≡ length self.old + length lits.now + 8) }
+        ensures place { IfOk result (λ r. r.0 ≡ length self.old) }
+        ensures long { IfOk result (λ r. length self.new ≡ length self.old + length lits.now + 9) }
         ensures err { OnErr result (self.new ≡ self.old) }
     {
-        self.words.reserve(lits.len() + 8)?;
-        let place = (self.words.len() + lits.len()) as u64;
+        self.words.reserve(lits.len() + 9)?;
+        let place = self.words.len() as u64;
         let header = [
             Lit(n),
             Lit(0),
@@ -71,8 +72,9 @@ impl Arena {
             Lit(0),
             Lit(0),
         ];
-        self.words.extend_from_slice(lits)?;
         self.words.extend_from_slice(&header)?;
+        self.words.extend_from_slice(lits)?;
+        self.words.push(Lit(n))?;
         Ok(ClauseRef(place))
     }
 
@@ -83,7 +85,7 @@ impl Arena {
     {
         let at = r.0 as usize;
         let n = self.words[at].0 as usize;
-        &self.words[at - n..at]
+        &self.words[at + 8..at + 8 + n]
     }
 
     /// The literals of a live clause, to be written. Whatever is left there, nothing else changes, as the
@@ -95,7 +97,7 @@ impl Arena {
     {
         let at = r.0 as usize;
         let n = self.words[at].0 as usize;
-        self.words.slice_mut(at - n..at)
+        self.words.slice_mut(at + 8..at + 8 + n)
     }
 
     /// The id that a live clause was added with.
@@ -176,17 +178,18 @@ impl Arena {
     {
         let mut refs = Vec::new(alloc);
         let mut end = self.words.len();
-        // Behind each end stands a clause: its eight words, and its literals before them.
-        while end >= 8 {
-            let at = end - 8;
+        // Before each end stands a clause, and the last word of it tells where it begins.
+        while end >= 9 {
+            let last = self.words[end - 1].0 as usize;
+            let at = (end - 9).saturating_sub(last);
             let n = self.words[at].0 as usize;
-            if n > at {
+            if at + 9 + n > end {
                 break;
             }
             if self.words[at + 1].0 % 2 == 0 {
                 refs.push(ClauseRef(at as u64))?;
             }
-            end = at - n;
+            end = at;
         }
         Ok(refs)
     }
@@ -218,9 +221,8 @@ impl Arena {
         while left > 0 {
             left -= 1;
             let r = refs[left];
-            let place = end + self.size(r) as u64;
-            moves.push(r, ClauseRef(place))?;
-            end = place + 8;
+            moves.push(r, ClauseRef(end))?;
+            end = end + self.size(r) as u64 + 9;
         }
         Ok(moves)
     }
