@@ -5,19 +5,14 @@
 
 mod array;
 mod document;
-mod examples;
+pub mod examples;
 mod grid;
-mod laws;
+pub mod laws;
 mod number;
 
 pub use array::{array_items, objects};
 pub use document::read_json;
-pub use examples::{box_has_four_entries, float_has_no_entries, ragged_grid_has_entries};
 pub use grid::{Entry, has_lengths, read_entry, read_grid};
-pub use laws::{
-    boxes_are_full, boxes_are_in_place, entries_are_in_place, grids_are_full, plain_has_no_float,
-    printed_is_read_back, stacks_are_full, stacks_are_in_place,
-};
 pub use number::{triple, whole_member, whole_u32, whole_up_to};
 
 #[cfg(test)]

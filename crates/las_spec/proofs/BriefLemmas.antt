@@ -12,7 +12,7 @@ use Rattle.las_base.specs.declared.Size.{Size}
 use Rattle.las_base.specs.declared.Port.{Port}
 use Rattle.las_base.specs.Axes.{same_axis}
 use Rattle.las_base.specs.Cells.{holds, same_cell, same_size}
-use Rattle.las_base.specs.Jobs.{IsTask, task_of, within_limits, port_fits, distinct_cells}
+use Rattle.las_base.specs.Jobs.{Task, IsTask, task_of, within_limits, port_fits, distinct_cells}
 use Rattle.las_base.proofs.Same.{same_cell-sym, same_size-is, same_size-sym, none_any}
 use Rattle.las_spec.specs.declared.draft.WrittenPort.{WrittenPort}
 use Rattle.las_spec.specs.declared.refusal.SpecRefused.{SpecRefused}
@@ -269,5 +269,10 @@ spec_is_brief w e =
           (ap (first_bad_port w.size box [] 0) job.ports_are ∙ none);
     }
 
-pub brief_by_parts : (s : Size) (ps qs : List Port) (fs gs : List (List Pauli)) (cs ds : List Cell) (bs es : List Size) → ps ≡ qs → fs ≡ gs → cs ≡ ds → bs ≡ es → IsBrief (brief_of (task_of s qs gs ds) es) → IsBrief (brief_of (task_of s ps fs cs) bs)
-brief_by_parts s ps qs fs gs cs ds bs es e f g b h = rw (e, f, g, b) h
+-- a specification is refused first for its job
+pub job_comes_first : (w : Written) → refusal w ≡ None → job_refusal w ≡ None
+unfolding refusal
+job_comes_first w e = (neither (job_refusal w) (first_of (box_refusals w)) e).0
+
+pub brief_by_parts : (t u : Task) (bs es : List Size) → t ≡ u → bs ≡ es → IsBrief (brief_of u es) → IsBrief (brief_of t bs)
+brief_by_parts t u bs es e b h = rw (e, b) h

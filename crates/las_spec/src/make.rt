@@ -86,11 +86,9 @@ fn spec_of_draft(alloc: Global, draft: &Draft) -> Result<Spec, AllocError>
     requires { refusal (written_as draft.now) ≡ None }
     ensures { IfOk result (λ s. s ≡ brief_written (written_as draft.now)) }
 {
-    let ports = ports_of(alloc, &draft.ports)?;
-    let flows = flows_of(alloc, &draft.words)?;
-    let forbidden = cells_once(alloc, &draft.forbidden)?;
+    let job = job_of_draft(alloc, draft)?;
     let boxes = sizes_once(alloc, &draft.boxes)?;
-    Ok(Spec::new(draft.size, ports, flows, forbidden, boxes))
+    Ok(Spec::new(job, boxes))
 }
 
 /// The job that a draft writes, or its first refusal. Its boxes play no part.

@@ -92,24 +92,24 @@ impl fmt::Display for SpecRefused {
 
     fn fmt<W: fmt::Write>(&self, f: &mut fmt::Formatter<W>) -> fmt::Result {
         match *self {
-            SpecRefused::NotJson => write!(f, "not json"),
-            SpecRefused::NotObject => write!(f, "not an object"),
+            SpecRefused::NotJson => f.write_str("not json"),
+            SpecRefused::NotObject => f.write_str("not an object"),
             SpecRefused::Missing(field) => write!(f, "missing {field}"),
             SpecRefused::Shape(field) => write!(f, "shape {field}"),
-            SpecRefused::SizeOut => write!(f, "size"),
-            SpecRefused::PortCount => write!(f, "port count"),
+            SpecRefused::SizeOut => f.write_str("size"),
+            SpecRefused::PortCount => f.write_str("port count"),
             SpecRefused::PortWay(port) => write!(f, "port {port} direction"),
             SpecRefused::PortBasis(port) => write!(f, "port {port} basis"),
             SpecRefused::PortPlace(port) => write!(f, "port {port} place"),
             SpecRefused::PortTwice(earlier, later) => write!(f, "port {later} repeats {earlier}"),
-            SpecRefused::FlowCount => write!(f, "flow count"),
+            SpecRefused::FlowCount => f.write_str("flow count"),
             SpecRefused::FlowLength(flow) => write!(f, "flow {flow} length"),
             SpecRefused::FlowLetter(flow, letter) => write!(f, "flow {flow} letter {letter}"),
             SpecRefused::ForbiddenPlace(cell) => write!(f, "forbidden {cell} place"),
-            SpecRefused::BoxCount => write!(f, "box count"),
+            SpecRefused::BoxCount => f.write_str("box count"),
             SpecRefused::BoxSize(number) => write!(f, "box {number} size"),
             SpecRefused::BoxPort(number, port) => write!(f, "box {number} port {port}"),
-            SpecRefused::Memory => write!(f, "memory"),
+            SpecRefused::Memory => f.write_str("memory"),
         }
     }
 }

@@ -37,22 +37,18 @@ impl Model for Job {
 /// A job with the boxes in which it is asked, seen as a `Brief`.
 #[derive(Drop)]
 pub struct Spec {
-    size: Size,
-    ports: Vec<Port>,
-    flows: Vec<FlowWord>,
-    forbidden: Vec<Cell>,
+    job: Job,
     boxes: IndexSet<Size>,
 }
 
 impl Model for Spec {
-    ghost use Rattle.las_base.specs.Jobs.{task_of};
     ghost use Rattle.las_spec.specs.Briefs.{Brief, IsBrief, brief_of};
 
     ghost Value = { Brief };
 
-    ghost view = { λ s. brief_of (task_of s.size s.ports.items s.flows.items s.forbidden.items) s.boxes.keys };
+    ghost view = { λ s. brief_of s.job s.boxes.keys };
 
-    ghost invariant = { λ s. IsBrief (brief_of (task_of s.size s.ports.items s.flows.items s.forbidden.items) s.boxes.keys) };
+    ghost invariant = { λ s. IsBrief (brief_of s.job s.boxes.keys) };
 }
 
 impl Job {
@@ -83,7 +79,8 @@ impl Job {
 
     /// Its ports, by their numbers.
     pub fn ports(&self) -> &[Port]
-        ensures { result.now ≡ self.now.ports }
+        ensures ports { result.now ≡ self.now.ports }
+        ensures kept { IsTask self.now }
     {
         &self.ports
     }
@@ -97,7 +94,8 @@ impl Job {
 
     /// Its flows, each with a letter for each port.
     pub fn flows(&self) -> &[FlowWord]
-        ensures { result.now ≡ self.now.flows }
+        ensures flows { result.now ≡ self.now.flows }
+        ensures kept { IsTask self.now }
     {
         &self.flows
     }
@@ -118,23 +116,19 @@ impl Job {
 }
 
 impl Spec {
-    pub(crate) fn new(
-        size: Size,
-        ports: Vec<Port>,
-        flows: Vec<FlowWord>,
-        forbidden: Vec<Cell>,
-        boxes: IndexSet<Size>,
-    ) -> Spec
-        requires { IsBrief (brief_of (task_of size ports.items flows.items forbidden.items) boxes.keys) }
-        ensures { result ≡ brief_of (task_of size ports.items flows.items forbidden.items) boxes.keys }
+    pub(crate) fn new(job: Job, boxes: IndexSet<Size>) -> Spec
+        requires { IsBrief (brief_of job boxes.keys) }
+        ensures { result ≡ brief_of job boxes.keys }
     {
-        Spec {
-            size,
-            ports,
-            flows,
-            forbidden,
-            boxes,
-        }
+        Spec { job, boxes }
+    }
+
+    /// The job as it is given, in a box of its own size.
+    pub(crate) fn own_job(&self) -> &Job
+        ensures job { result.now ≡ self.now.task }
+        ensures kept { IsBrief self.now }
+    {
+        &self.job
     }
 
     /// Its own size, in cells: ports and forbidden cells stand in a box of this size.
@@ -142,35 +136,35 @@ impl Spec {
         ensures size { result ≡ self.now.task.size }
         ensures kept { IsBrief self.now }
     {
-        self.size
+        self.job.size()
     }
 
     /// Its ports, by their numbers.
     pub fn ports(&self) -> &[Port]
         ensures { result.now ≡ self.now.task.ports }
     {
-        &self.ports
+        self.job.ports()
     }
 
     /// Its flows, each with a letter for each port.
     pub fn flows(&self) -> &[FlowWord]
         ensures { result.now ≡ self.now.task.flows }
     {
-        &self.flows
+        self.job.flows()
     }
 
     /// The cells that stay empty, once each, in the order in which they were given first.
     pub fn forbidden(&self) -> &[Cell]
         ensures { result.now ≡ self.now.task.forbidden }
     {
-        &self.forbidden
+        self.job.forbidden()
     }
 
     /// The version of the rules.
     pub fn rules(&self) -> Rules
         ensures { result ≡ One }
     {
-        Rules::One
+        self.job.rules()
     }
 
     /// How many boxes it has: 1 to `MOST_BOXES`.

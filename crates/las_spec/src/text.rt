@@ -34,13 +34,17 @@ fn axis_word(axis: Axis) -> &'static str
 fn direction_word(way: Way, axis: Axis) -> &'static str
     ensures { result.now ≡ direction_word way axis }
 {
-    match (way, axis) {
-        (Way::Plus, Axis::I) => "+I",
-        (Way::Plus, Axis::J) => "+J",
-        (Way::Plus, Axis::K) => "+K",
-        (Way::Minus, Axis::I) => "-I",
-        (Way::Minus, Axis::J) => "-J",
-        (Way::Minus, Axis::K) => "-K",
+    match way {
+        Way::Plus => match axis {
+            Axis::I => "+I",
+            Axis::J => "+J",
+            Axis::K => "+K",
+        },
+        Way::Minus => match axis {
+            Axis::I => "-I",
+            Axis::J => "-J",
+            Axis::K => "-K",
+        },
     }
 }
 

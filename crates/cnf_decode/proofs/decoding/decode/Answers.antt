@@ -10,7 +10,7 @@ returns-clause-shown c =
     let size = ap (λ (p : Plan). p.size) c.requires.plan in
     let built = subst (λ s. IsBuilt (values_of c.args.values.now) s c.in_ok-diagram.diagram) size c.in_ok-diagram.ensures in
     let are = subst (λ s. AreBuilt (values_of c.args.values.now) s (length c.flows-flows.result.now) (length c.flows-flows.result.now) c.in_ok-sheets.sheets) size c.in_ok-sheets.ensures in
-    let count = ap length c.flows-flows.ensures in
+    let count = ap length c.flows-flows.ensures.flows in
     decoded (values_of c.args.values.now) c.args.job.now c.requires.satisfied c.in_ok-diagram.diagram built c.in_ok-sheets.sheets (subst (λ n. AreBuilt (values_of c.args.values.now) c.args.job.now.size n n c.in_ok-sheets.sheets) count are)
 
 pub returns-clause-valid : goal.returns-clause-valid
@@ -18,7 +18,7 @@ returns-clause-valid c =
     let size = ap (λ (p : Plan). p.size) c.requires.plan in
     let built = subst (λ s. IsBuilt (values_of c.args.values.now) s c.in_ok-diagram.diagram) size c.in_ok-diagram.ensures in
     let are = subst (λ s. AreBuilt (values_of c.args.values.now) s (length c.flows-flows.result.now) (length c.flows-flows.result.now) c.in_ok-sheets.sheets) size c.in_ok-sheets.ensures in
-    let count = ap length c.flows-flows.ensures in
+    let count = ap length c.flows-flows.ensures.flows in
     (decoded_serves (values_of c.args.values.now) c.args.job.now c.size-size.ensures.kept c.requires.satisfied c.in_ok-diagram.diagram built c.in_ok-sheets.sheets (subst (λ n. AreBuilt (values_of c.args.values.now) c.args.job.now.size n n c.in_ok-sheets.sheets) count are)).0
 
 pub returns-clause-serve : goal.returns-clause-serve
@@ -26,7 +26,7 @@ returns-clause-serve c =
     let size = ap (λ (p : Plan). p.size) c.requires.plan in
     let built = subst (λ s. IsBuilt (values_of c.args.values.now) s c.in_ok-diagram.diagram) size c.in_ok-diagram.ensures in
     let are = subst (λ s. AreBuilt (values_of c.args.values.now) s (length c.flows-flows.result.now) (length c.flows-flows.result.now) c.in_ok-sheets.sheets) size c.in_ok-sheets.ensures in
-    let count = ap length c.flows-flows.ensures in
+    let count = ap length c.flows-flows.ensures.flows in
     (decoded_serves (values_of c.args.values.now) c.args.job.now c.size-size.ensures.kept c.requires.satisfied c.in_ok-diagram.diagram built c.in_ok-sheets.sheets (subst (λ n. AreBuilt (values_of c.args.values.now) c.args.job.now.size n n c.in_ok-sheets.sheets) count are)).1
 
 pub returns-clause-same : goal.returns-clause-same
@@ -34,7 +34,7 @@ returns-clause-same c =
     let size = ap (λ (p : Plan). p.size) c.requires.plan in
     let built = subst (λ s. IsBuilt (values_of c.args.values.now) s c.in_ok-diagram.diagram) size c.in_ok-diagram.ensures in
     let are = subst (λ s. AreBuilt (values_of c.args.values.now) s (length c.flows-flows.result.now) (length c.flows-flows.result.now) c.in_ok-sheets.sheets) size c.in_ok-sheets.ensures in
-    let count = ap length c.flows-flows.ensures in
+    let count = ap length c.flows-flows.ensures.flows in
     decoded_same c.args.job.now c.args.values.now c.requires.satisfied c.in_ok-diagram.diagram built c.in_ok-sheets.sheets (subst (λ n. AreBuilt (values_of c.args.values.now) c.args.job.now.size n n c.in_ok-sheets.sheets) count are) (c.requires.count ∙ ap plan_vars c.requires.plan)
 
 pub returns-clause-drawn : goal.returns-clause-drawn

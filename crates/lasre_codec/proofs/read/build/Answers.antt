@@ -16,12 +16,12 @@ returns-clause-ok c =
     let es = entries_kept c.args.grids.now in
     let good = ap (λ n. first_bad es n tested) (sym (c.volume.ensures ∙ ap volume c.size-size.ensures.size)) ∙ sym c.first_bad.ensures ∙ c.in_default-first_bad.is in
     let drawing = c.in_ok-diagram.ensures.shown ∙ ap (drawing_in es) c.size-size.ensures.size in
-    let surfaces = c.in_ok-sheets.ensures.shown ∙ ap (λ s. surfaces_in es s (length c.flows.result.now)) c.size-size.ensures.size ∙ ap (λ fs. surfaces_in es c.args.job.size (length fs)) c.flows.ensures in
+    let surfaces = c.in_ok-sheets.ensures.shown ∙ ap (λ s. surfaces_in es s (length c.flows.result.now)) c.size-size.ensures.size ∙ ap (λ fs. surfaces_in es c.args.job.size (length fs)) c.flows.ensures.flows in
     given_shown (view c.args.value.now) c.args.job c.args.grids.now c.requires c.in_ok-diagram.diagram c.in_ok-sheets.sheets (sym c.wrong_length.ensures ∙ c.in_default.is) good drawing surfaces
 
 pub returns-clause-fits : goal.returns-clause-fits
 returns-clause-fits c =
     let es = entries_kept c.args.grids.now in
     let drawing = c.in_ok-diagram.ensures.shown ∙ ap (drawing_in es) c.size-size.ensures.size in
-    let surfaces = c.in_ok-sheets.ensures.shown ∙ ap (λ s. surfaces_in es s (length c.flows.result.now)) c.size-size.ensures.size ∙ ap (λ fs. surfaces_in es c.args.job.size (length fs)) c.flows.ensures in
+    let surfaces = c.in_ok-sheets.ensures.shown ∙ ap (λ s. surfaces_in es s (length c.flows.result.now)) c.size-size.ensures.size ∙ ap (λ fs. surfaces_in es c.args.job.size (length fs)) c.flows.ensures.flows in
     shown_fits es c.args.job c.in_ok-diagram.diagram c.in_ok-sheets.sheets c.size-size.ensures.kept c.in_ok-diagram.ensures.drawn c.in_ok-sheets.ensures.kept drawing surfaces

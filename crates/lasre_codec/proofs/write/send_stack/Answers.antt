@@ -12,7 +12,7 @@ loop-flow-preserved g c =
 
 pub returns : goal.returns
 returns g c =
-    let same : c.flows-count.result.now ≡ c.args.parts.now.task.flows = c.flows-count.ensures ∙ ap (λ (l : Lasre). l.task.flows) c.parts.view_is in
+    let same : c.flows-count.result.now ≡ c.args.parts.now.task.flows = c.flows-count.ensures.flows ∙ ap (λ (l : Lasre). l.task.flows) c.parts.view_is in
     let many : length c.flows-count.result.now ≡ length c.args.parts.now.task.flows = ap (length {A = List Pauli}) same in
     let all : c.loop-flow.flow ≡ length c.args.parts.now.task.flows = omega (arith, many, c.loop-flow.auto.flow-end) in
     on_ok_weaker c.end_seq.result
