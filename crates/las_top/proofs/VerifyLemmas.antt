@@ -16,8 +16,7 @@ use Rattle.box_sweep.proofs.SolutionLemmas.{none_solves}
 use Rattle.las_top.proofs.FlowLemmas.{none_in_flows}
 use Rattle.las_top.specs.Answers.{Answer}
 use Rattle.las_top.specs.Moments.{ShelfTells}
-use Rattle.las_top.specs.Runs.{AnswersBoxLog, AnswersListed, AnswersLogFile}
-use Rattle.las_top.specs.Verify.{AnswersSteps, lists_box}
+use Rattle.las_top.specs.Verify.{AnswersBoxLog, AnswersListed, AnswersLogFile, AnswersSteps, lists_box}
 
 -- ---- the log of a file
 

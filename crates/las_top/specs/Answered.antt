@@ -5,9 +5,9 @@ use Rattle.las_words.specs.declared.command.Command.{Command}
 use Rattle.las_words.specs.declared.command.Command.TheVariants.{Sweep, Check, Audit, Verify, Spec, Zx, Bench}
 use Rattle.las_words.specs.Forms.{IsForm}
 use Rattle.las_top.specs.declared.run.Status.{Status}
-use Rattle.las_top.specs.Answers.{Answer, refused, words_reason}
+use Rattle.las_top.specs.Answers.{Answer, Says, refused, words_reason}
 use Rattle.las_top.specs.Moments.{Moment, ShelfTells, Sinks, SourceTells}
-use Rattle.las_top.specs.Runs.{Asked, AnswersCommand, GivesSpec, Says, is_any}
+use Rattle.las_top.specs.Runs.{Asked, AnswersCommand, GivesSpec, is_any}
 use Rattle.las_top.specs.Verify.{lists_box}
 use Rattle.las_top.specs.Sweep.{AnswersBench, AnswersSweep}
 

@@ -12,10 +12,10 @@ use Rattle.box_sweep.specs.Partial.{IsBrokenOff}
 use Rattle.las_top.specs.declared.run.Status.{Status}
 use Rattle.las_top.specs.declared.run.Status.TheVariants.{WriteFault, ShelfFault, Memory}
 use Rattle.las_top.specs.Answered.{AsksFor}
-use Rattle.las_top.specs.Answers.{Answer, refused, too_long_reason, words_reason}
+use Rattle.las_top.specs.Answers.{Answer, most_bytes, refused, too_long_reason, words_reason}
 use Rattle.las_top.specs.Headline.{Solves}
 use Rattle.las_top.specs.Moments.{Moment, ShelfTells, Sinks, SourceTells}
-use Rattle.las_top.specs.Runs.{Asked, AnswersCommand, most_bytes}
+use Rattle.las_top.specs.Runs.{Asked, AnswersCommand}
 
 -- the growths of the two sinks are fronts of an answer's texts
 pub record SaysFront (answer : Answer) (before after : Sinks) : Type 0 where

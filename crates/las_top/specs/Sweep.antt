@@ -12,10 +12,9 @@ use Rattle.box_sweep.specs.declared.ending.Ending.TheVariants.{Least, Found, Non
 use Rattle.box_sweep.specs.Sweeps.{HasSwept}
 use Rattle.las_top.specs.declared.run.Status.{Status}
 use Rattle.las_top.specs.declared.run.Status.TheVariants as status
-use Rattle.las_top.specs.Answers.{refused, too_long_reason}
+use Rattle.las_top.specs.Answers.{Says, most_bytes, refused, too_long_reason}
 use Rattle.las_top.specs.Headline.{Solves}
 use Rattle.las_top.specs.Moments.{Moment, ShelfTells, Sinks, SourceTells}
-use Rattle.las_top.specs.Runs.{Says, most_bytes}
 
 -- the status that an ending gives
 abbrev pub status_by : Ending → Status

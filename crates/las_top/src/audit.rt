@@ -5,12 +5,12 @@ ghost use Rattle.las_io.specs.Names.{is_lawful_name};
 ghost use Rattle.las_io.specs.Shelves.{FilesStay};
 ghost use Rattle.las_spec.specs.Briefs.{spec_of};
 ghost use Rattle.lasre_codec.specs.Documents.{IsLasre, lasre_as};
-ghost use Rattle.las_top.specs.Audit.{is_listed, first_unserved, audit_of, audit_answer};
+ghost use Rattle.las_top.specs.Audit.{AnswersFile, AnswersSpec, first_unserved, audit_of, audit_answer};
 ghost use Rattle.las_top.specs.Findings.{answer_by};
 ghost use Rattle.las_top.specs.Headline.{HasSolution};
-ghost use Rattle.las_top.specs.Shown.{ShowsListed};
+ghost use Rattle.las_top.specs.Shown.{ShowsListed, is_listed};
 ghost use Rattle.las_top.specs.declared.run.Status.TheVariants.{Good};
-ghost use Rattle.las_top.specs.Runs.{AnswersFile, AnswersSpec, is_any};
+ghost use Rattle.las_top.specs.Runs.{is_any};
 
 use crate::check::first_breach;
 use crate::finding::{FindRefused, Finding, Refusal};

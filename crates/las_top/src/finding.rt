@@ -5,13 +5,12 @@ ghost use Rattle.las_io.specs.Counts.{Rose};
 ghost use Rattle.las_io.specs.Moves.{AppendsFront};
 ghost use Rattle.las_spec.specs.Texts.{refusal_text};
 ghost use Rattle.lasre_codec.specs.Texts as lasre_text;
-ghost use Rattle.las_top.specs.Answers.{IsAnswer, refused_line};
+ghost use Rattle.las_top.specs.Answers.{IsAnswer, Says, refused_line};
 ghost use Rattle.las_top.specs.Audit.{flow_line};
 ghost use Rattle.las_top.specs.Check.{broken_line};
 ghost use Rattle.las_top.specs.Findings.{answer_by, reason_by};
 ghost use Rattle.las_top.specs.Moments.{sinks};
 ghost use Rattle.las_top.specs.Partial.{SaysFront};
-ghost use Rattle.las_top.specs.Runs.{Says};
 ghost use Rattle.las_top.specs.Verify.{rejected_line};
 
 use crate::run::Status;

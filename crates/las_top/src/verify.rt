@@ -8,8 +8,7 @@ ghost use Rattle.las_spec.specs.Briefs.{job_of, spec_of};
 ghost use Rattle.cnf_base.specs.Literals.{IsRefuted};
 ghost use Rattle.clause_log.specs.Pieces.{log_told};
 ghost use Rattle.las_top.specs.Findings.{answer_by};
-ghost use Rattle.las_top.specs.Runs.{AnswersBoxLog, AnswersListed, AnswersLogFile, AnswersVerify};
-ghost use Rattle.las_top.specs.Verify.{AnswersSteps, lists_box};
+ghost use Rattle.las_top.specs.Verify.{AnswersBoxLog, AnswersListed, AnswersLogFile, AnswersSteps, AnswersVerify, lists_box};
 
 use crate::finding::{FindRefused, Finding, Refusal};
 use box_sweep::{clauses_of, log_name};
