@@ -21,11 +21,11 @@ use Rattle.las_spec.specs.Briefs.{Brief}
 use Rattle.las_top.specs.declared.run.Status.TheVariants.{Good}
 use Rattle.lasre_codec.specs.declared.refusal.LasreRefused.{LasreRefused}
 use Rattle.las_top.specs.Answers.{Answer, no_with}
-use Rattle.las_top.specs.Audit.{or_later, first_unserved, answer_to_breaches, audit_of, is_listed}
+use Rattle.las_top.specs.Audit.{or_later, first_unserved, answer_to_breaches, audit_of}
 use Rattle.las_top.specs.Zx.{zx_by, zx_of_lasre, zx_text}
 use Rattle.las_top.specs.Check.{answer_to_breach, answer_to_lasre}
 use Rattle.las_top.specs.Headline.{Solves, AreLabelled}
-use Rattle.las_top.specs.Shown.{ServesEach}
+use Rattle.las_top.specs.Shown.{ServesEach, is_listed}
 
 -- ---- served flows
 

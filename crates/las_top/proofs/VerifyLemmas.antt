@@ -3,7 +3,6 @@ use Rattle.std.proofs.Common.{◌≡◌, inl, inr, ℕ, Bool, true, false, List,
 use Rattle.las_base.specs.declared.Size.{Size}
 use Rattle.las_base.specs.Jobs.{Task, IsTask}
 use Rattle.las_io.specs.Shelves.{File, FilesStay, file_of}
-use Rattle.grid_box.specs.Drawings.{Drawing}
 use Rattle.las_base.specs.Cells.{same_size}
 use Rattle.las_spec.specs.Briefs.{Brief}
 use Rattle.las_base.proofs.Same.{any_at, same_size-refl}
@@ -14,11 +13,10 @@ use Rattle.clause_log.specs.Pieces.{bytes_from, log_told, read_to_limit}
 use Rattle.clause_log.specs.Steps.{Ahead, Follows, ahead_of, tail_of}
 use Rattle.box_sweep.specs.Lines.{log_name}
 use Rattle.box_sweep.proofs.SolutionLemmas.{none_solves}
-use Rattle.las_top.specs.Headline.{Solves}
 use Rattle.las_top.proofs.FlowLemmas.{none_in_flows}
 use Rattle.las_top.specs.Answers.{Answer}
-use Rattle.las_top.specs.Runs.{AnswersBoxLog, AnswersListed, AnswersLogFile}
-use Rattle.las_top.specs.Verify.{AnswersSteps, lists_box}
+use Rattle.las_top.specs.Moments.{ShelfTells}
+use Rattle.las_top.specs.Verify.{AnswersBoxLog, AnswersListed, AnswersLogFile, AnswersSteps, lists_box}
 
 -- ---- the log of a file
 
@@ -55,21 +53,21 @@ pub is_absent : (files : Option (List File)) (name : List ℕ) → IfSome files 
 is_absent None name none = tt
 is_absent (Some fs) name none = not_there (file_of fs name) none
 
-module _ {H : Type 0} (files : H → Option (List File)) (finds : H → List ℕ → Bool → Type 0) (before : H) (answer : Answer) where
-  pub log_judged : (f : Cnf) (name own : List ℕ) (mid : H) → finds before name true → IfSome (files before) (λ fs. true ≡ is_some (file_of fs name)) → own ≡ name → FilesStay (files before) (files mid)
-      → AnswersSteps f (log_told own (files mid)) answer → AnswersLogFile files finds (IsRefuted f.clauses) f name before answer
+module _ {H : Type 0} (shelf : ShelfTells H) (before : H) (answer : Answer) where
+  pub log_judged : (f : Cnf) (name own : List ℕ) (mid : H) → shelf.finds before name true → IfSome (shelf.files before) (λ fs. true ≡ is_some (file_of fs name)) → own ≡ name → FilesStay (shelf.files before) (shelf.files mid)
+      → AnswersSteps f (log_told own (shelf.files mid)) answer → AnswersLogFile shelf (IsRefuted f.clauses) f name before answer
   log_judged f name own mid present there named stay s = inr (record {
     steps = s.steps;
     tail = tail_of s.follows;
     present = present;
-    told = of_files (files before) name s.steps s.follows there (told_before (files before) (files mid) name (s.steps, s.follows) stay (subst (λ n. IfSome (log_told n (files mid)) (λ a. a ≡ (s.steps, s.follows))) named s.told_are));
+    told = of_files (shelf.files before) name s.steps s.follows there (told_before (shelf.files before) (shelf.files mid) name (s.steps, s.follows) stay (subst (λ n. IfSome (log_told n (shelf.files mid)) (λ a. a ≡ (s.steps, s.follows))) named s.told_are));
     answer_is = s.answer_is;
     shown = s.refuted;
   })
 
   -- ---- the log of a box
 
-  shown : (t : Task) → IsTask t → AnswersLogFile files finds (IsRefuted (clause_table t).clauses) (clause_table t) (log_name t.size) before answer → AnswersBoxLog files finds Solves t before answer
+  shown : (t : Task) → IsTask t → AnswersLogFile shelf (IsRefuted (clause_table t).clauses) (clause_table t) (log_name t.size) before answer → AnswersBoxLog shelf t before answer
   shown t task (inl none) = inl none
   shown t task (inr a) = inr (record {
     steps = a.steps;
@@ -80,13 +78,13 @@ module _ {H : Type 0} (files : H → Option (List File)) (finds : H → List ℕ
     shown = λ good. none_in_flows t task (none_solves t task (a.shown good));
   })
 
-  pub box_judged : (t : Task) (f : Cnf) (name : List ℕ) → IsTask t → f ≡ clause_table t → name ≡ log_name t.size → AnswersLogFile files finds (IsRefuted f.clauses) f name before answer → AnswersBoxLog files finds Solves t before answer
+  pub box_judged : (t : Task) (f : Cnf) (name : List ℕ) → IsTask t → f ≡ clause_table t → name ≡ log_name t.size → AnswersLogFile shelf (IsRefuted f.clauses) f name before answer → AnswersBoxLog shelf t before answer
   box_judged t f name task formula_is name_is a =
-      shown t task (subst (λ n. AnswersLogFile files finds (IsRefuted (clause_table t).clauses) (clause_table t) n before answer) name_is (subst (λ g. AnswersLogFile files finds (IsRefuted g.clauses) g name before answer) formula_is a))
+      shown t task (subst (λ n. AnswersLogFile shelf (IsRefuted (clause_table t).clauses) (clause_table t) n before answer) name_is (subst (λ g. AnswersLogFile shelf (IsRefuted g.clauses) g name before answer) formula_is a))
 
-  pub listed_judged : (after : H) (Solved : Task → Drawing → Type 0) (t u : Task) (listed : Bool) → listed ≡ true → u ≡ t → AnswersBoxLog files finds Solved u before answer → AnswersListed files finds Solved listed t before after answer
-  listed_judged after Solved t u true is same a = subst (λ v. AnswersBoxLog files finds Solved v before answer) same a
-  listed_judged after Solved t u false is same a = absurd (cc)
+  pub listed_judged : (after : H) (t u : Task) (listed : Bool) → listed ≡ true → u ≡ t → AnswersBoxLog shelf u before answer → AnswersListed shelf listed t before after answer
+  listed_judged after t u true is same a = subst (λ v. AnswersBoxLog shelf v before answer) same a
+  listed_judged after t u false is same a = absurd (cc)
 
 -- ---- listed boxes
 

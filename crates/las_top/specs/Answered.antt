@@ -1,19 +1,15 @@
 -- What a run is answered, by its words: a text that the input determines, or, of a sweep, what is true of what is said.
 use Rattle.std.specs.Prelude.{◌≡◌, ℕ, Bool, true, false, List, map, Option, Some, None, String, string_bytes}
 use Rattle.std.specs.declared.alloc.Global.{Global}
-use Rattle.las_base.specs.declared.Axis.TheVariants.{J}
-use Rattle.las_base.specs.Jobs.{Task}
-use Rattle.las_io.specs.Shelves.{File}
-use Rattle.grid_box.specs.Drawings.{Drawing}
-use Rattle.las_gen.specs.Ghz.{ghz_of}
 use Rattle.las_words.specs.declared.command.Command.{Command}
 use Rattle.las_words.specs.declared.command.Command.TheVariants.{Sweep, Check, Audit, Verify, Spec, Zx, Bench}
 use Rattle.las_words.specs.Forms.{IsForm}
 use Rattle.las_top.specs.declared.run.Status.{Status}
-use Rattle.las_top.specs.Answers.{Answer, refused, words_reason}
-use Rattle.las_top.specs.Runs.{Asked, AnswersCommand, GivesSpec, Says, is_any}
+use Rattle.las_top.specs.Answers.{Answer, Says, refused, words_reason}
+use Rattle.las_top.specs.Moments.{Moment, ShelfTells, Sinks, SourceTells}
+use Rattle.las_top.specs.Runs.{Asked, AnswersCommand, GivesSpec, is_any}
 use Rattle.las_top.specs.Verify.{lists_box}
-use Rattle.las_top.specs.Sweep.{AnswersSweep, IsSwept}
+use Rattle.las_top.specs.Sweep.{AnswersBench, AnswersSweep}
 
 -- the words after the program's name, as texts
 abbrev pub texts_of : List (String Global) → List (List ℕ)
@@ -59,50 +55,46 @@ abbrev pub AsksNoShelf : List (List ℕ) → Type 0
 AsksNoShelf words = (c : Command) → IsForm c words → asks_shelf c ≡ false
 
 -- there is an answer of this kind, and it was said
-pub record HasAnswer (IsIt : Answer → Type 0) (status : Status) (out out' err err' : Option (List ℕ)) : Type 0 where
+pub record HasAnswer (IsIt : Answer → Type 0) (status : Status) (before after : Sinks) : Type 0 where
   pub answer : Answer
   pub is : IsIt answer
-  pub said : Says answer status out out' err err'
+  pub said : Says answer status before after
 
--- of a source: the bytes left, where it tells them, and how many it has given
-module _ {S : Type 0} (left : S → Option (List ℕ)) (given : S → ℕ) where
+-- of what a source tells
+module _ {S : Type 0} (source : SourceTells S) where
   -- what sends a command to the shelf: `sweep` and `audit` a specification that the source gives, `verify` one that lists the box, `bench` nothing
   abbrev pub SendsToShelf : Command → S → S → Type 0
-  SendsToShelf (Sweep budget) src src' = GivesSpec left given is_any src src'
-  SendsToShelf (Audit name) src src' = GivesSpec left given is_any src src'
-  SendsToShelf (Verify size) src src' = GivesSpec left given (lists_box size) src src'
-  SendsToShelf (Bench n) src src' = src' ≡ src
-  SendsToShelf _ src src' = ⊥
+  SendsToShelf (Sweep budget) before after = GivesSpec source is_any before after
+  SendsToShelf (Audit name) before after = GivesSpec source is_any before after
+  SendsToShelf (Verify size) before after = GivesSpec source (lists_box size) before after
+  SendsToShelf (Bench n) before after = after ≡ before
+  SendsToShelf _ before after = ⊥
 
   -- the words are a form of a command that is sent to the shelf
-  pub record IsSentToShelf (words : List (List ℕ)) (src src' : S) : Type 0 where
+  pub record IsSentToShelf (words : List (List ℕ)) (before after : S) : Type 0 where
     pub command : Command
     pub asked : IsForm command words
-    pub sent : SendsToShelf command src src'
+    pub sent : SendsToShelf command before after
 
--- of a source and a shelf
-module _ {S H : Type 0} (left : S → Option (List ℕ)) (given : S → ℕ) (files : H → Option (List File)) (finds : H → List ℕ → Bool → Type 0) (fetched : H → ℕ) where
-  -- words that ask for nothing are refused, and nothing is read
-  abbrev pub RefusesWords : S → S → H → H → Option (List ℕ) → Option (List ℕ) → Option (List ℕ) → Option (List ℕ) → Status → Type 0
-  RefusesWords src src' before after out out' err err' status = Says (refused words_reason) status out out' err err' × (src' ≡ src) × (after ≡ before)
-
+-- of what a source and a shelf tell
+module _ {S H : Type 0} (source : SourceTells S) (shelf : ShelfTells H) where
   -- the answer of a command that the input determines
-  abbrev pub AnswersInput : (Task → Drawing → Type 0) → Asked → S → S → H → H → Option (List ℕ) → Option (List ℕ) → Option (List ℕ) → Option (List ℕ) → Status → Type 0
-  AnswersInput Solved asked src src' before after out out' err err' status = HasAnswer (AnswersCommand left given files finds fetched Solved asked src src' before after) status out out' err err'
+  abbrev pub AnswersInput : Asked → Moment S H → Moment S H → Status → Type 0
+  AnswersInput asked before after status = HasAnswer (AnswersCommand source shelf asked before.source after.source before.shelf after.shelf) status before.sinks after.sinks
 
-  -- what is answered to a command
-  abbrev pub AnswersTo : (Task → Drawing → Type 0) → Option Command → S → S → H → H → Option (List ℕ) → Option (List ℕ) → Option (List ℕ) → Option (List ℕ) → Status → Type 0
-  AnswersTo Solved None src src' before after out out' err err' status = RefusesWords src src' before after out out' err err' status
-  AnswersTo Solved (Some (Sweep budget)) src src' before after out out' err err' status = AnswersSweep left given files Solved budget src src' before after out out' err err' status
-  AnswersTo Solved (Some (Bench n)) src src' before after out out' err err' status = IsSwept Solved (ghz_of n J) 100000 (files before) (files after) out out' err err' status × (src' ≡ src)
-  AnswersTo Solved (Some Check) src src' before after out out' err err' status = AnswersInput Solved Asked.Check src src' before after out out' err err' status
-  AnswersTo Solved (Some Spec) src src' before after out out' err err' status = AnswersInput Solved Asked.Spec src src' before after out out' err err' status
-  AnswersTo Solved (Some (Audit name)) src src' before after out out' err err' status = AnswersInput Solved (Asked.Audit name) src src' before after out out' err err' status
-  AnswersTo Solved (Some (Verify size)) src src' before after out out' err err' status = AnswersInput Solved (Asked.Verify size) src src' before after out out' err err' status
-  AnswersTo Solved (Some Zx) src src' before after out out' err err' status = AnswersInput Solved Asked.Zx src src' before after out out' err err' status
+  -- what is answered to a command; words that ask for none are refused, and nothing is read
+  abbrev pub AnswersTo : Option Command → Moment S H → Moment S H → Status → Type 0
+  AnswersTo None before after status = Says (refused words_reason) status before.sinks after.sinks × (after.source ≡ before.source) × (after.shelf ≡ before.shelf)
+  AnswersTo (Some (Sweep budget)) before after status = AnswersSweep source shelf budget before after status
+  AnswersTo (Some (Bench n)) before after status = AnswersBench shelf n before after status
+  AnswersTo (Some Check) before after status = AnswersInput Asked.Check before after status
+  AnswersTo (Some Spec) before after status = AnswersInput Asked.Spec before after status
+  AnswersTo (Some (Audit name)) before after status = AnswersInput (Asked.Audit name) before after status
+  AnswersTo (Some (Verify size)) before after status = AnswersInput (Asked.Verify size) before after status
+  AnswersTo (Some Zx) before after status = AnswersInput Asked.Zx before after status
 
   -- the words ask for a command or for nothing, and this is answered
-  pub record HasAnswered (Solved : Task → Drawing → Type 0) (words : List (List ℕ)) (src src' : S) (before after : H) (out out' err err' : Option (List ℕ)) (status : Status) : Type 0 where
+  pub record HasAnswered (words : List (List ℕ)) (before after : Moment S H) (status : Status) : Type 0 where
     pub command : Option Command
     pub asked : AsksFor words command
-    pub answered : AnswersTo Solved command src src' before after out out' err err' status
+    pub answered : AnswersTo command before after status

@@ -1,7 +1,10 @@
 -- What a run answers: its status, and all that it says.
-use Rattle.std.specs.Prelude.{ℕ, List, [], ◌++◌, codes}
+use Rattle.std.specs.Prelude.{◌≡◌, ℕ, false, List, [], ◌++◌, codes, None, IfSome}
+use Rattle.std.specs.Io.KnownBytes.{Appends}
+use Rattle.las_io.specs.Shelves.{file_of}
 use Rattle.las_top.specs.declared.run.Status.{Status}
 use Rattle.las_top.specs.declared.run.Status.TheVariants.{Good, No, Refused, FoundLater, StillOpen, ReadFault, WriteFault, ShelfFault, Memory}
+use Rattle.las_top.specs.Moments.{ShelfTells, Sinks}
 
 -- an answer: the status, and all that goes to standard output and to standard error
 pub record Answer : Type 0 where
@@ -25,6 +28,12 @@ refused_line reason = codes "refused: " ++ (reason ++ codes "\n")
 abbrev pub refused : List ℕ → Answer
 refused reason = record { status = Refused; out = []; err = refused_line reason }
 
+-- the status is that of the answer, and it was said: all of it, and nothing else
+pub record Says (answer : Answer) (status : Status) (before after : Sinks) : Type 0 where
+  pub status_is : status ≡ answer.status
+  pub out_grows : Appends before.out after.out answer.out
+  pub err_grows : Appends before.err after.err answer.err
+
 -- ---- the lines and reasons that are the same at every run
 
 -- the diagram is valid
@@ -47,6 +56,10 @@ accepted_line = codes "accepted\n"
 abbrev pub words_reason : List ℕ
 words_reason = codes "words"
 
+-- the most bytes of a document
+abbrev pub most_bytes : ℕ
+most_bytes = 4194304
+
 -- the source has more bytes than a document may have
 abbrev pub too_long_reason : List ℕ
 too_long_reason = codes "too long"
@@ -66,6 +79,8 @@ not_listed_reason = codes "box not listed"
 -- the log has more bytes than a log may have
 abbrev pub log_too_long_reason : List ℕ
 log_too_long_reason = codes "log too long"
+
+-- ---- statuses
 
 -- the status is that of an answer: no fault, and no want of memory
 abbrev pub IsAnswer : Status → Type 0
@@ -92,3 +107,11 @@ number_of ReadFault = 5
 number_of WriteFault = 6
 number_of ShelfFault = 7
 number_of Memory = 9
+
+-- ---- the shelf
+
+-- the shelf has no file of this name, and this is answered
+pub record IsNoFile {H : Type 0} (shelf : ShelfTells H) (name : List ℕ) (before : H) (answer : Answer) : Type 0 where
+  pub absent : shelf.finds before name false
+  pub told : IfSome (shelf.files before) (λ fs. file_of fs name ≡ None)
+  pub answer_is : answer ≡ refused (no_file_reason name)

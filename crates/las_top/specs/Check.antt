@@ -1,12 +1,14 @@
 -- What `check` answers to a document.
-use Rattle.std.specs.Prelude.{ℕ, List, ◌++◌, codes, Option, Some, None, Result, Ok, Err}
+use Rattle.std.specs.Prelude.{◌≡◌, ◌↔◌, ℕ, List, ◌++◌, codes, Option, Some, None, Result, Ok, Err}
 use Rattle.std.specs.Fmt.{decimal}
 use Rattle.grid_box.specs.declared.Broken.{Broken}
 use Rattle.grid_box.specs.Breaches.{breach}
 use Rattle.lasre_codec.specs.declared.refusal.LasreRefused.{LasreRefused}
 use Rattle.lasre_codec.specs.Documents.{Lasre, lasre_of}
 use Rattle.lasre_codec.specs.Texts.{refusal_text}
+use Rattle.las_top.specs.declared.run.Status.TheVariants.{Good}
 use Rattle.las_top.specs.Answers.{Answer, yes_with, no_with, refused, valid_line}
+use Rattle.las_top.specs.Shown.{ShowsValid}
 
 -- the line of a rule that is broken
 abbrev pub broken_line : Broken → List ℕ
@@ -29,3 +31,8 @@ answer_to_lasre (Err refusal) = refused_lasre refusal
 -- what `check` answers to a document: the first breach of all rules
 abbrev pub check_answer : List ℕ → Answer
 check_answer bytes = answer_to_lasre (lasre_of bytes)
+
+-- what `check` answers to the bytes of a document. It says yes exactly where the document shows a valid diagram
+pub record AnswersCheck (bytes : List ℕ) (answer : Answer) : Type 0 where
+  pub answer_is : answer ≡ check_answer bytes
+  pub exact : (answer.status ≡ Good) ↔ ShowsValid bytes

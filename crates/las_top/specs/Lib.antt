@@ -7,6 +7,7 @@ pub mod Verify
 pub mod Audit
 pub mod Zx
 pub mod Shown
+pub mod Moments
 pub mod Runs
 pub mod Commands
 pub mod Sweep

@@ -1,11 +1,16 @@
 -- What the bytes of a document show: a diagram that is valid, and sheets of its own that serve.
-use Rattle.std.specs.Prelude.{◌≡◌, ℕ, ◌<◌, true, List, [], length, IsOkAnd, slice_index_or}
+use Rattle.std.specs.Prelude.{◌≡◌, ℕ, ◌<◌, Bool, true, List, [], length, IsOkAnd, slice_index_or}
+use Rattle.std.specs.List.{list_any}
+use Rattle.las_base.specs.Jobs.{Task, same_job}
 use Rattle.grid_box.specs.PipeRules.{IsValid}
 use Rattle.grid_box.specs.Sheets.{Serves}
 use Rattle.grid_box.specs.Surfaces.{sheets_of}
-use Rattle.las_spec.specs.Briefs.{Brief}
+use Rattle.las_spec.specs.Briefs.{Brief, job_of}
 use Rattle.lasre_codec.specs.Documents.{Lasre, lasre_of}
-use Rattle.las_top.specs.Audit.{is_listed}
+
+-- the job is that of a listed box
+abbrev pub is_listed : Brief → Task → Bool
+is_listed b t = list_any (λ box. same_job (job_of b box) t) b.boxes
 
 -- its own sheets serve every flow of the job
 abbrev pub ServesEach : Lasre → Type 0

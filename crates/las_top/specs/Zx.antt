@@ -1,5 +1,5 @@
 -- What `zx` answers to a document.
-use Rattle.std.specs.Prelude.{ℕ, suc, List, [], ◌∷◌, ◌++◌, Option, Some, None, Result, Ok, Err}
+use Rattle.std.specs.Prelude.{◌≡◌, ◌↔◌, ℕ, suc, List, [], ◌∷◌, ◌++◌, Option, Some, None, Result, Ok, Err}
 use Rattle.las_base.specs.declared.Pauli.{Pauli}
 use Rattle.grid_box.specs.declared.Broken.{Broken}
 use Rattle.grid_box.specs.Breaches.{breach}
@@ -11,9 +11,12 @@ use Rattle.zx_graph.specs.Graphs.{zx_of}
 use Rattle.zx_graph.specs.Texts.{graph_text}
 use Rattle.sheet_flow.specs.FromSheets.{labels_from}
 use Rattle.sheet_flow.specs.LabelTexts.{flow_text}
+use Rattle.las_top.specs.declared.run.Status.TheVariants.{Good}
 use Rattle.las_top.specs.Answers.{Answer, yes_with, no_with}
 use Rattle.las_top.specs.Audit.{first_unserved, flow_line}
 use Rattle.las_top.specs.Check.{broken_line, refused_lasre}
+use Rattle.las_top.specs.Headline.{ShowsFlows}
+use Rattle.las_top.specs.Shown.{ShowsServed}
 
 -- the texts of flows with the labels that their sheets give. Flows are numbered on from `flow`
 abbrev pub flow_texts : Drawing → Surfaces → ℕ → List (List Pauli) → List ℕ
@@ -42,3 +45,9 @@ zx_given (Err refusal) = refused_lasre refusal
 -- what `zx` answers to a document
 abbrev pub zx_answer : List ℕ → Answer
 zx_answer bytes = zx_given (lasre_of bytes)
+
+-- what `zx` answers to the bytes of a document. It says yes exactly where the document's own sheets serve, and then the labels that it shows obey the rules
+pub record AnswersZx (bytes : List ℕ) (answer : Answer) : Type 0 where
+  pub answer_is : answer ≡ zx_answer bytes
+  pub exact : (answer.status ≡ Good) ↔ ShowsServed bytes
+  pub shows : answer.status ≡ Good → ShowsFlows bytes

@@ -5,12 +5,12 @@ ghost use Rattle.las_io.specs.Names.{is_lawful_name};
 ghost use Rattle.las_io.specs.Shelves.{FilesStay};
 ghost use Rattle.las_spec.specs.Briefs.{spec_of};
 ghost use Rattle.lasre_codec.specs.Documents.{IsLasre, lasre_as};
-ghost use Rattle.las_top.specs.Audit.{is_listed, first_unserved, audit_of, audit_answer};
+ghost use Rattle.las_top.specs.Audit.{AnswersFile, AnswersSpec, first_unserved, audit_of, audit_answer};
 ghost use Rattle.las_top.specs.Findings.{answer_by};
 ghost use Rattle.las_top.specs.Headline.{HasSolution};
-ghost use Rattle.las_top.specs.Shown.{ShowsListed};
+ghost use Rattle.las_top.specs.Shown.{ShowsListed, is_listed};
 ghost use Rattle.las_top.specs.declared.run.Status.TheVariants.{Good};
-ghost use Rattle.las_top.specs.Runs.{AnswersFile, AnswersSpec, is_any};
+ghost use Rattle.las_top.specs.Runs.{is_any};
 
 use crate::check::first_breach;
 use crate::finding::{FindRefused, Finding, Refusal};
@@ -86,7 +86,7 @@ fn audit_file<H: Shelf>(
 ) -> Result<Finding, FindRefused>
     requires lawful { IsTrue (is_lawful_name name.now) }
     requires none_begun { H.begun_name shelf.old ≡ None }
-    ensures found { IfOk result (λ f. AnswersFile H.files H.finds H.given spec.now name.now shelf.old shelf.new (answer_by f)) }
+    ensures found { IfOk result (λ f. AnswersFile H.Shelf spec.now name.now shelf.old shelf.new (answer_by f)) }
     ensures shelf_fault { IsErrOf result FindRefused.ShelfFault → Rose (H.faults shelf.old) (H.faults shelf.new) }
     ensures no_read_fault { IsErrOf result FindRefused.ReadFault → ⊥ }
     ensures files { FilesStay (H.files shelf.old) (H.files shelf.new) }
@@ -110,7 +110,7 @@ pub(crate) fn audit<H: Shelf>(
 ) -> Result<Finding, FindRefused>
     requires lawful { IsTrue (is_lawful_name name.now) }
     requires none_begun { H.begun_name shelf.old ≡ None }
-    ensures found { IfOk result (λ f. AnswersSpec H.files H.finds H.given name.now (spec_of bytes.now) shelf.old shelf.new (answer_by f)) }
+    ensures found { IfOk result (λ f. AnswersSpec H.Shelf name.now (spec_of bytes.now) shelf.old shelf.new (answer_by f)) }
     ensures shelf_fault { IsErrOf result FindRefused.ShelfFault → Rose (H.faults shelf.old) (H.faults shelf.new) }
     ensures asked { IsErrOf result FindRefused.ShelfFault → IsOkAnd (spec_of bytes.now) (λ b. is_any b ≡ true) }
     ensures no_read_fault { IsErrOf result FindRefused.ReadFault → ⊥ }

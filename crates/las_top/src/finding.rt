@@ -5,12 +5,12 @@ ghost use Rattle.las_io.specs.Counts.{Rose};
 ghost use Rattle.las_io.specs.Moves.{AppendsFront};
 ghost use Rattle.las_spec.specs.Texts.{refusal_text};
 ghost use Rattle.lasre_codec.specs.Texts as lasre_text;
-ghost use Rattle.las_top.specs.Answers.{IsAnswer, refused_line};
+ghost use Rattle.las_top.specs.Answers.{IsAnswer, Says, refused_line};
 ghost use Rattle.las_top.specs.Audit.{flow_line};
 ghost use Rattle.las_top.specs.Check.{broken_line};
 ghost use Rattle.las_top.specs.Findings.{answer_by, reason_by};
+ghost use Rattle.las_top.specs.Moments.{sinks};
 ghost use Rattle.las_top.specs.Partial.{SaysFront};
-ghost use Rattle.las_top.specs.Runs.{Says};
 ghost use Rattle.las_top.specs.Verify.{rejected_line};
 
 use crate::run::Status;
@@ -156,8 +156,8 @@ pub(crate) fn tell<K: Sink, E: Sink>(
     out: &mut K,
     err: &mut E,
 ) -> Status
-    ensures said { IsAnswer result → Says (answer_by finding) result (K.held out.old) (K.held out.new) (E.held err.old) (E.held err.new) }
-    ensures front { SaysFront (answer_by finding) (K.held out.old) (K.held out.new) (E.held err.old) (E.held err.new) }
+    ensures said { IsAnswer result → Says (answer_by finding) result (sinks (K.held out.old) (E.held err.old)) (sinks (K.held out.new) (E.held err.new)) }
+    ensures front { SaysFront (answer_by finding) (sinks (K.held out.old) (E.held err.old)) (sinks (K.held out.new) (E.held err.new)) }
     ensures write_fault { result ≡ Status.WriteFault → Rose (K.faults out.old) (K.faults out.new) ⊎ Rose (E.faults err.old) (E.faults err.new) }
     ensures no_read_fault { result ≢ Status.ReadFault }
     ensures no_shelf_fault { result ≢ Status.ShelfFault }

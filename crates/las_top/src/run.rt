@@ -3,12 +3,12 @@ ghost use Rattle.std.specs.Prelude.{◌≡◌, ◌⊎◌, None, Some, false, tru
 ghost use Rattle.las_io.specs.Counts.{Rose};
 ghost use Rattle.las_io.specs.Shelves.{FilesStay};
 ghost use Rattle.las_spec.specs.Briefs.{spec_of};
-ghost use Rattle.las_top.specs.Headline.{Solves};
 ghost use Rattle.las_top.specs.Answers.{EndsLogs, IsAnswer, number_of};
 ghost use Rattle.las_top.specs.Commands.{IsInBounds, IsLawful, command_as};
 ghost use Rattle.las_top.specs.Findings.{answer_by};
+ghost use Rattle.las_top.specs.Moments.{moment};
 ghost use Rattle.las_top.specs.Answered.{AnswersInput, AnswersTo, AsksNoShelf, HasAnswered, IsSentToShelf, ReadsNothing, SendsToShelf, WritesNoLogs, asks_shelf, reads_source, texts_of, writes_logs};
-ghost use Rattle.las_top.specs.Partial.{HasFront, HasLeft, LeavesAtShelf, LeavesAtSink};
+ghost use Rattle.las_top.specs.Partial.{HasLeft, LeavesAtShelf, LeavesAtSink, LeavesInput};
 ghost use Rattle.las_top.specs.Runs.{AnswersAsked, AnswersCommand, GivesSpec, asks_file, sends};
 
 use crate::audit::audit;
@@ -89,7 +89,7 @@ fn answer<H: Shelf>(
 ) -> Result<Finding, FindRefused>
     requires none_begun { H.begun_name shelf.old ≡ None }
     requires lawful { IsLawful (command_as command) }
-    ensures found { IfOk result (λ f. AnswersAsked H.files H.finds H.given Solves (command_as command.entry) shelf.old shelf.new bytes.now (answer_by f)) }
+    ensures found { IfOk result (λ f. AnswersAsked H.Shelf (command_as command.entry) shelf.old shelf.new bytes.now (answer_by f)) }
     ensures shelf_fault { IsErrOf result FindRefused.ShelfFault → Rose (H.faults shelf.old) (H.faults shelf.new) }
     ensures asked { IsErrOf result FindRefused.ShelfFault → IsOkAnd (spec_of bytes.now) (λ b. sends (command_as command.entry) b ≡ true) }
     ensures unasked { asks_file (command_as command.entry) ≡ false → (shelf.new ≡ shelf.old) × (IsErrOf result FindRefused.ShelfFault → ⊥) }
@@ -115,11 +115,10 @@ fn find<S: Source, H: Shelf>(
 ) -> Result<Finding, FindRefused>
     requires none_begun { H.begun_name shelf.old ≡ None }
     requires lawful { IsLawful (command_as command) }
-    ensures found { IfOk result (λ f. AnswersCommand S.left S.given H.files H.finds H.given Solves (command_as command.entry)
-        src.old src.new shelf.old shelf.new (answer_by f)) }
+    ensures found { IfOk result (λ f. AnswersCommand S.Source H.Shelf (command_as command.entry) src.old src.new shelf.old shelf.new (answer_by f)) }
     ensures read_fault { IsErrOf result FindRefused.ReadFault → Rose (S.faults src.old) (S.faults src.new) × (shelf.new ≡ shelf.old) }
     ensures shelf_fault { IsErrOf result FindRefused.ShelfFault → Rose (H.faults shelf.old) (H.faults shelf.new) }
-    ensures asked { IsErrOf result FindRefused.ShelfFault → GivesSpec S.left S.given (sends (command_as command.entry)) src.old src.new }
+    ensures asked { IsErrOf result FindRefused.ShelfFault → GivesSpec S.Source (sends (command_as command.entry)) src.old src.new }
     ensures unasked { asks_file (command_as command.entry) ≡ false → (shelf.new ≡ shelf.old) × (IsErrOf result FindRefused.ShelfFault → ⊥) }
     ensures files { FilesStay (H.files shelf.old) (H.files shelf.new) }
     ensures begun { H.begun_name shelf.new ≡ None }
@@ -143,14 +142,21 @@ fn find_and_tell<S: Source, K: Sink, E: Sink, H: Shelf>(
 ) -> Status
     requires none_begun { H.begun_name shelf.old ≡ None }
     requires lawful { IsLawful (command_as command) }
-    ensures answer { IsAnswer result → AnswersInput S.left S.given H.files H.finds H.given Solves (command_as command.entry) src.old src.new shelf.old shelf.new (K.held out.old) (K.held out.new) (E.held err.old) (E.held err.new) result }
-    ensures at_sink { result ≡ Status.WriteFault → HasFront (AnswersCommand S.left S.given H.files H.finds H.given Solves (command_as command.entry) src.old src.new shelf.old shelf.new) (K.held out.old) (K.held out.new) (E.held err.old) (E.held err.new) }
-    ensures at_memory { result ≡ Status.Memory → (FilesStay (H.files shelf.old) (H.files shelf.new) × (out.new ≡ out.old) × (err.new ≡ err.old)) ⊎ HasFront (AnswersCommand S.left S.given H.files H.finds H.given Solves (command_as command.entry) src.old src.new shelf.old shelf.new) (K.held out.old) (K.held out.new) (E.held err.old) (E.held err.new) }
+    ensures answer { let before = moment src.old shelf.old (K.held out.old) (E.held err.old) in
+        let after = moment src.new shelf.new (K.held out.new) (E.held err.new) in
+        IsAnswer result → AnswersInput S.Source H.Shelf (command_as command.entry) before after result }
+    ensures at_sink { let before = moment src.old shelf.old (K.held out.old) (E.held err.old) in
+        let after = moment src.new shelf.new (K.held out.new) (E.held err.new) in
+        result ≡ Status.WriteFault → LeavesInput S.Source H.Shelf (command_as command.entry) before after }
+    ensures at_memory { let before = moment src.old shelf.old (K.held out.old) (E.held err.old) in
+        let after = moment src.new shelf.new (K.held out.new) (E.held err.new) in
+        result ≡ Status.Memory → (FilesStay (H.files shelf.old) (H.files shelf.new) × (out.new ≡ out.old) × (err.new ≡ err.old))
+        ⊎ LeavesInput S.Source H.Shelf (command_as command.entry) before after }
     ensures files { FilesStay (H.files shelf.old) (H.files shelf.new) }
     ensures begun { H.begun_name shelf.new ≡ None }
     ensures read_fault { result ≡ Status.ReadFault → Rose (S.faults src.old) (S.faults src.new) × (shelf.new ≡ shelf.old) }
     ensures shelf_fault { result ≡ Status.ShelfFault → Rose (H.faults shelf.old) (H.faults shelf.new) }
-    ensures asked { result ≡ Status.ShelfFault → GivesSpec S.left S.given (sends (command_as command.entry)) src.old src.new }
+    ensures asked { result ≡ Status.ShelfFault → GivesSpec S.Source (sends (command_as command.entry)) src.old src.new }
     ensures unasked { asks_file (command_as command.entry) ≡ false → (shelf.new ≡ shelf.old) × (result ≡ Status.ShelfFault → ⊥) }
     ensures before_fault { (result ≡ Status.ReadFault) ⊎ (result ≡ Status.ShelfFault) → (out.new ≡ out.old) × (err.new ≡ err.old) }
     ensures write_fault { result ≡ Status.WriteFault → Rose (K.faults out.old) (K.faults out.new) ⊎ Rose (E.faults err.old) (E.faults err.new) }
@@ -174,18 +180,26 @@ fn obey<S: Source, K: Sink, E: Sink, H: Shelf>(
 ) -> Status
     requires none_begun { H.begun_name shelf.old ≡ None }
     requires bounds { IsInBounds command }
-    ensures answer { IsAnswer result → AnswersTo S.left S.given H.files H.finds H.given Solves (Some command)
-        src.old src.new shelf.old shelf.new (K.held out.old) (K.held out.new) (E.held err.old) (E.held err.new) result }
-    ensures at_sink { result ≡ Status.WriteFault → LeavesAtSink S.left S.given H.files H.finds H.given Solves src.old src.new shelf.old shelf.new (K.held out.old) (K.held out.new) (E.held err.old) (E.held err.new) (Some command) }
-    ensures at_shelf { result ≡ Status.ShelfFault → LeavesAtShelf S.left S.given H.files H.finds H.given Solves src.old src.new shelf.old shelf.new (K.held out.old) (K.held out.new) (E.held err.old) (E.held err.new) (Some command) }
-    ensures at_memory { result ≡ Status.Memory → (FilesStay (H.files shelf.old) (H.files shelf.new) × (out.new ≡ out.old) × (err.new ≡ err.old)) ⊎ LeavesAtSink S.left S.given H.files H.finds H.given Solves src.old src.new shelf.old shelf.new (K.held out.old) (K.held out.new) (E.held err.old) (E.held err.new) (Some command) }
+    ensures answer { let before = moment src.old shelf.old (K.held out.old) (E.held err.old) in
+        let after = moment src.new shelf.new (K.held out.new) (E.held err.new) in
+        IsAnswer result → AnswersTo S.Source H.Shelf (Some command) before after result }
+    ensures at_sink { let before = moment src.old shelf.old (K.held out.old) (E.held err.old) in
+        let after = moment src.new shelf.new (K.held out.new) (E.held err.new) in
+        result ≡ Status.WriteFault → LeavesAtSink S.Source H.Shelf before after (Some command) }
+    ensures at_shelf { let before = moment src.old shelf.old (K.held out.old) (E.held err.old) in
+        let after = moment src.new shelf.new (K.held out.new) (E.held err.new) in
+        result ≡ Status.ShelfFault → LeavesAtShelf S.Source H.Shelf before after (Some command) }
+    ensures at_memory { let before = moment src.old shelf.old (K.held out.old) (E.held err.old) in
+        let after = moment src.new shelf.new (K.held out.new) (E.held err.new) in
+        result ≡ Status.Memory → (FilesStay (H.files shelf.old) (H.files shelf.new) × (out.new ≡ out.old) × (err.new ≡ err.old))
+        ⊎ LeavesAtSink S.Source H.Shelf before after (Some command) }
     ensures nothing_read { reads_source command ≡ false → src.new ≡ src.old }
     ensures nothing_begun { EndsLogs result → H.begun_name shelf.new ≡ None }
     ensures unasked { asks_shelf command ≡ false → shelf.new ≡ shelf.old }
     ensures shelf_files { writes_logs command ≡ false → FilesStay (H.files shelf.old) (H.files shelf.new) × (H.begun_name shelf.new ≡ None) }
     ensures read_fault { result ≡ Status.ReadFault → Rose (S.faults src.old) (S.faults src.new) × (out.new ≡ out.old) × (err.new ≡ err.old) × (shelf.new ≡ shelf.old) }
     ensures shelf_fault { result ≡ Status.ShelfFault → Rose (H.faults shelf.old) (H.faults shelf.new) }
-    ensures sent { result ≡ Status.ShelfFault → SendsToShelf S.left S.given command src.old src.new }
+    ensures sent { result ≡ Status.ShelfFault → SendsToShelf S.Source command src.old src.new }
     ensures before_shelf_fault { result ≡ Status.ShelfFault → writes_logs command ≡ false → (out.new ≡ out.old) × (err.new ≡ err.old) }
     ensures write_fault { result ≡ Status.WriteFault → Rose (K.faults out.old) (K.faults out.new) ⊎ Rose (E.faults err.old) (E.faults err.new) }
 {
@@ -216,8 +230,9 @@ pub fn run_las<S: Source, K: Sink, E: Sink, H: Shelf>(
     requires none_begun { H.begun_name shelf.old ≡ None }
 
     // The words ask for a command or for nothing, and what is printed is its answer, all of it and nothing else.
-    ensures answer { IsAnswer result → HasAnswered S.left S.given H.files H.finds H.given Solves (texts_of words.now)
-        src.old src.new shelf.old shelf.new (K.held out.old) (K.held out.new) (E.held err.old) (E.held err.new) result }
+    ensures answer { let before = moment src.old shelf.old (K.held out.old) (E.held err.old) in
+        let after = moment src.new shelf.new (K.held out.new) (E.held err.new) in
+        IsAnswer result → HasAnswered S.Source H.Shelf (texts_of words.now) before after result }
 
     // At every status the source is as before for a command that does not read it, and for words that are refused, the
     // shelf is as before for a command that does not ask it, and a command that writes no logs leaves the shelf's files as
@@ -229,16 +244,22 @@ pub fn run_las<S: Source, K: Sink, E: Sink, H: Shelf>(
 
     // Where a sink failed, what the words ask for is left in part: fronts of its texts were said, and of a sweep each whole
     // line is true. So it is where the shelf failed in a sweep, and where memory was refused once something was said.
-    ensures at_sink { result ≡ Status.WriteFault → HasLeft (LeavesAtSink S.left S.given H.files H.finds H.given Solves src.old src.new shelf.old shelf.new (K.held out.old) (K.held out.new) (E.held err.old) (E.held err.new)) (texts_of words.now) }
-    ensures at_shelf { result ≡ Status.ShelfFault → HasLeft (LeavesAtShelf S.left S.given H.files H.finds H.given Solves src.old src.new shelf.old shelf.new (K.held out.old) (K.held out.new) (E.held err.old) (E.held err.new)) (texts_of words.now) }
-    ensures at_memory { result ≡ Status.Memory → (FilesStay (H.files shelf.old) (H.files shelf.new) × (out.new ≡ out.old) × (err.new ≡ err.old))
-        ⊎ HasLeft (LeavesAtSink S.left S.given H.files H.finds H.given Solves src.old src.new shelf.old shelf.new (K.held out.old) (K.held out.new) (E.held err.old) (E.held err.new)) (texts_of words.now) }
+    ensures at_sink { let before = moment src.old shelf.old (K.held out.old) (E.held err.old) in
+        let after = moment src.new shelf.new (K.held out.new) (E.held err.new) in
+        result ≡ Status.WriteFault → HasLeft (LeavesAtSink S.Source H.Shelf before after) (texts_of words.now) }
+    ensures at_shelf { let before = moment src.old shelf.old (K.held out.old) (E.held err.old) in
+        let after = moment src.new shelf.new (K.held out.new) (E.held err.new) in
+        result ≡ Status.ShelfFault → HasLeft (LeavesAtShelf S.Source H.Shelf before after) (texts_of words.now) }
+    ensures at_memory { let before = moment src.old shelf.old (K.held out.old) (E.held err.old) in
+        let after = moment src.new shelf.new (K.held out.new) (E.held err.new) in
+        result ≡ Status.Memory → (FilesStay (H.files shelf.old) (H.files shelf.new) × (out.new ≡ out.old) × (err.new ≡ err.old))
+        ⊎ HasLeft (LeavesAtSink S.Source H.Shelf before after) (texts_of words.now) }
 
     // A fault is answered only where the count of its object rose in this call, and a fault of the shelf only where the
     // command was sent to it.
     ensures read_fault { result ≡ Status.ReadFault → Rose (S.faults src.old) (S.faults src.new) × (out.new ≡ out.old) × (err.new ≡ err.old) × (shelf.new ≡ shelf.old) }
     ensures shelf_fault { result ≡ Status.ShelfFault → Rose (H.faults shelf.old) (H.faults shelf.new) }
-    ensures sent { result ≡ Status.ShelfFault → IsSentToShelf S.left S.given (texts_of words.now) src.old src.new }
+    ensures sent { result ≡ Status.ShelfFault → IsSentToShelf S.Source (texts_of words.now) src.old src.new }
     ensures before_shelf_fault { result ≡ Status.ShelfFault → WritesNoLogs (texts_of words.now) → (out.new ≡ out.old) × (err.new ≡ err.old) }
     ensures write_fault { result ≡ Status.WriteFault
         → Rose (K.faults out.old) (K.faults out.new) ⊎ Rose (E.faults err.old) (E.faults err.new) }

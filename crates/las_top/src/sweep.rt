@@ -8,6 +8,7 @@ ghost use Rattle.las_top.specs.Headline.{Solves};
 ghost use Rattle.las_gen.specs.Ghz.{ghz_of};
 ghost use Rattle.las_top.specs.Answers.{EndsLogs, IsAnswer};
 ghost use Rattle.box_sweep.specs.Partial.{IsBrokenOff};
+ghost use Rattle.las_top.specs.Moments.{moment, sinks};
 ghost use Rattle.las_top.specs.Partial.{IsCutOff, LeavesSweep, LeavesSwept};
 ghost use Rattle.las_top.specs.Runs.{GivesSpec, is_any};
 ghost use Rattle.las_top.specs.Sweep.{AnswersSweep, IsSwept, IsSweptBy, status_by};
@@ -47,7 +48,7 @@ fn sweep_spec<K: Sink, E: Sink, H: Shelf>(
     requires low { 1 ≤ budget }
     requires high { budget ≤ 10000000 }
     requires none_begun { H.begun_name shelf.old ≡ None }
-    ensures swept { IsAnswer result → IsSwept Solves spec.now budget (H.files shelf.old) (H.files shelf.new) (K.held out.old) (K.held out.new) (E.held err.old) (E.held err.new) result }
+    ensures swept { IsAnswer result → IsSwept spec.now budget (H.files shelf.old) (H.files shelf.new) (sinks (K.held out.old) (E.held err.old)) (sinks (K.held out.new) (E.held err.new)) result }
     ensures broken_off { IsCutOff result → IsBrokenOff Solves spec.now budget (H.files shelf.old) (H.files shelf.new) (K.held out.old) (K.held out.new) (E.held err.old) (E.held err.new) }
     ensures ended { EndsLogs result → H.begun_name shelf.new ≡ None }
     ensures no_refusal { result ≢ Status.Refused }
@@ -76,10 +77,10 @@ fn sweep_bytes<K: Sink, E: Sink, H: Shelf>(
     requires low { 1 ≤ budget }
     requires high { budget ≤ 10000000 }
     requires none_begun { H.begun_name shelf.old ≡ None }
-    ensures swept { IsAnswer result → IsSweptBy H.files Solves budget (spec_of bytes.now) shelf.old shelf.new (K.held out.old) (K.held out.new) (E.held err.old) (E.held err.new) result }
-    ensures at_sink { result ≡ Status.WriteFault → LeavesSwept H.files Solves budget (spec_of bytes.now) shelf.old shelf.new (K.held out.old) (K.held out.new) (E.held err.old) (E.held err.new) }
-    ensures at_shelf { result ≡ Status.ShelfFault → LeavesSwept H.files Solves budget (spec_of bytes.now) shelf.old shelf.new (K.held out.old) (K.held out.new) (E.held err.old) (E.held err.new) }
-    ensures at_memory { result ≡ Status.Memory → (FilesStay (H.files shelf.old) (H.files shelf.new) × (out.new ≡ out.old) × (err.new ≡ err.old)) ⊎ LeavesSwept H.files Solves budget (spec_of bytes.now) shelf.old shelf.new (K.held out.old) (K.held out.new) (E.held err.old) (E.held err.new) }
+    ensures swept { IsAnswer result → IsSweptBy H.Shelf budget (spec_of bytes.now) shelf.old shelf.new (sinks (K.held out.old) (E.held err.old)) (sinks (K.held out.new) (E.held err.new)) result }
+    ensures at_sink { result ≡ Status.WriteFault → LeavesSwept H.Shelf budget (spec_of bytes.now) shelf.old shelf.new (sinks (K.held out.old) (E.held err.old)) (sinks (K.held out.new) (E.held err.new)) }
+    ensures at_shelf { result ≡ Status.ShelfFault → LeavesSwept H.Shelf budget (spec_of bytes.now) shelf.old shelf.new (sinks (K.held out.old) (E.held err.old)) (sinks (K.held out.new) (E.held err.new)) }
+    ensures at_memory { result ≡ Status.Memory → (FilesStay (H.files shelf.old) (H.files shelf.new) × (out.new ≡ out.old) × (err.new ≡ err.old)) ⊎ LeavesSwept H.Shelf budget (spec_of bytes.now) shelf.old shelf.new (sinks (K.held out.old) (E.held err.old)) (sinks (K.held out.new) (E.held err.new)) }
     ensures ended { EndsLogs result → H.begun_name shelf.new ≡ None }
     ensures no_read_fault { result ≢ Status.ReadFault }
     ensures shelf_fault { result ≡ Status.ShelfFault → Rose (H.faults shelf.old) (H.faults shelf.new) }
@@ -107,18 +108,27 @@ pub(crate) fn sweep_source<S: Source, K: Sink, E: Sink, H: Shelf>(
     requires none_begun { H.begun_name shelf.old ≡ None }
 
     // What is printed is true of what came, at every status but those of faults and of want of memory.
-    ensures swept { IsAnswer result → AnswersSweep S.left S.given H.files Solves budget src.old src.new shelf.old shelf.new (K.held out.old) (K.held out.new) (E.held err.old) (E.held err.new) result }
+    ensures swept { let before = moment src.old shelf.old (K.held out.old) (E.held err.old) in
+        let after = moment src.new shelf.new (K.held out.new) (E.held err.new) in
+        IsAnswer result → AnswersSweep S.Source H.Shelf budget before after result }
 
     // After a fault, or without memory, what was said is a front of what is true.
-    ensures at_sink { result ≡ Status.WriteFault → LeavesSweep S.left S.given H.files Solves budget src.old src.new shelf.old shelf.new (K.held out.old) (K.held out.new) (E.held err.old) (E.held err.new) }
-    ensures at_shelf { result ≡ Status.ShelfFault → LeavesSweep S.left S.given H.files Solves budget src.old src.new shelf.old shelf.new (K.held out.old) (K.held out.new) (E.held err.old) (E.held err.new) }
-    ensures at_memory { result ≡ Status.Memory → (FilesStay (H.files shelf.old) (H.files shelf.new) × (out.new ≡ out.old) × (err.new ≡ err.old)) ⊎ LeavesSweep S.left S.given H.files Solves budget src.old src.new shelf.old shelf.new (K.held out.old) (K.held out.new) (E.held err.old) (E.held err.new) }
+    ensures at_sink { let before = moment src.old shelf.old (K.held out.old) (E.held err.old) in
+        let after = moment src.new shelf.new (K.held out.new) (E.held err.new) in
+        result ≡ Status.WriteFault → LeavesSweep S.Source H.Shelf budget before after }
+    ensures at_shelf { let before = moment src.old shelf.old (K.held out.old) (E.held err.old) in
+        let after = moment src.new shelf.new (K.held out.new) (E.held err.new) in
+        result ≡ Status.ShelfFault → LeavesSweep S.Source H.Shelf budget before after }
+    ensures at_memory { let before = moment src.old shelf.old (K.held out.old) (E.held err.old) in
+        let after = moment src.new shelf.new (K.held out.new) (E.held err.new) in
+        result ≡ Status.Memory → (FilesStay (H.files shelf.old) (H.files shelf.new) × (out.new ≡ out.old) × (err.new ≡ err.old))
+        ⊎ LeavesSweep S.Source H.Shelf budget before after }
     ensures ended { EndsLogs result → H.begun_name shelf.new ≡ None }
 
     // A fault is answered only where the count of its object rose in this call.
     ensures read_fault { result ≡ Status.ReadFault → Rose (S.faults src.old) (S.faults src.new) × (out.new ≡ out.old) × (err.new ≡ err.old) × (shelf.new ≡ shelf.old) }
     ensures shelf_fault { result ≡ Status.ShelfFault → Rose (H.faults shelf.old) (H.faults shelf.new) }
-    ensures asked { result ≡ Status.ShelfFault → GivesSpec S.left S.given is_any src.old src.new }
+    ensures asked { result ≡ Status.ShelfFault → GivesSpec S.Source is_any src.old src.new }
     ensures write_fault { result ≡ Status.WriteFault → Rose (K.faults out.old) (K.faults out.new) ⊎ Rose (E.faults err.old) (E.faults err.new) }
 {
     match read_all(alloc, src, MOST_BYTES) {
@@ -140,7 +150,7 @@ pub(crate) fn bench<K: Sink, E: Sink, H: Shelf>(
     requires low { 2 ≤ n }
     requires high { n ≤ 24 }
     requires none_begun { H.begun_name shelf.old ≡ None }
-    ensures swept { IsAnswer result → IsSwept Solves (ghz_of n J) 100000 (H.files shelf.old) (H.files shelf.new) (K.held out.old) (K.held out.new) (E.held err.old) (E.held err.new) result }
+    ensures swept { IsAnswer result → IsSwept (ghz_of n J) 100000 (H.files shelf.old) (H.files shelf.new) (sinks (K.held out.old) (E.held err.old)) (sinks (K.held out.new) (E.held err.new)) result }
     ensures at_sink { result ≡ Status.WriteFault → IsBrokenOff Solves (ghz_of n J) 100000 (H.files shelf.old) (H.files shelf.new) (K.held out.old) (K.held out.new) (E.held err.old) (E.held err.new) }
     ensures at_shelf { result ≡ Status.ShelfFault → IsBrokenOff Solves (ghz_of n J) 100000 (H.files shelf.old) (H.files shelf.new) (K.held out.old) (K.held out.new) (E.held err.old) (E.held err.new) }
     ensures at_memory { result ≡ Status.Memory → (FilesStay (H.files shelf.old) (H.files shelf.new) × (out.new ≡ out.old) × (err.new ≡ err.old)) ⊎ IsBrokenOff Solves (ghz_of n J) 100000 (H.files shelf.old) (H.files shelf.new) (K.held out.old) (K.held out.new) (E.held err.old) (E.held err.new) }

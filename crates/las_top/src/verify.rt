@@ -7,10 +7,8 @@ ghost use Rattle.las_base.specs.Cells.{same_size};
 ghost use Rattle.las_spec.specs.Briefs.{job_of, spec_of};
 ghost use Rattle.cnf_base.specs.Literals.{IsRefuted};
 ghost use Rattle.clause_log.specs.Pieces.{log_told};
-ghost use Rattle.las_top.specs.Headline.{Solves};
 ghost use Rattle.las_top.specs.Findings.{answer_by};
-ghost use Rattle.las_top.specs.Runs.{AnswersBoxLog, AnswersListed, AnswersLogFile, AnswersVerify};
-ghost use Rattle.las_top.specs.Verify.{AnswersSteps, lists_box};
+ghost use Rattle.las_top.specs.Verify.{AnswersBoxLog, AnswersListed, AnswersLogFile, AnswersSteps, AnswersVerify, lists_box};
 
 use crate::finding::{FindRefused, Finding, Refusal};
 use box_sweep::{clauses_of, log_name};
@@ -68,7 +66,7 @@ fn judge_file<H: Shelf>(
 ) -> Result<Finding, FindRefused>
     requires lawful { IsTrue (is_lawful_name name.now) }
     requires none_begun { H.begun_name shelf.old ≡ None }
-    ensures found { IfOk result (λ f. AnswersLogFile H.files H.finds (IsRefuted formula.now.clauses) formula.now name.now shelf.old (answer_by f)) }
+    ensures found { IfOk result (λ f. AnswersLogFile H.Shelf (IsRefuted formula.now.clauses) formula.now name.now shelf.old (answer_by f)) }
     ensures shelf_fault { IsErrOf result FindRefused.ShelfFault → Rose (H.faults shelf.old) (H.faults shelf.new) }
     ensures no_read_fault { IsErrOf result FindRefused.ReadFault → ⊥ }
     ensures files { FilesStay (H.files shelf.old) (H.files shelf.new) }
@@ -86,7 +84,7 @@ fn judge_file<H: Shelf>(
 // What is found of the log of a job's box.
 fn judge_job<H: Shelf>(alloc: Global, job: &Job, shelf: &mut H) -> Result<Finding, FindRefused>
     requires none_begun { H.begun_name shelf.old ≡ None }
-    ensures found { IfOk result (λ f. AnswersBoxLog H.files H.finds Solves job.now shelf.old (answer_by f)) }
+    ensures found { IfOk result (λ f. AnswersBoxLog H.Shelf job.now shelf.old (answer_by f)) }
     ensures shelf_fault { IsErrOf result FindRefused.ShelfFault → Rose (H.faults shelf.old) (H.faults shelf.new) }
     ensures no_read_fault { IsErrOf result FindRefused.ReadFault → ⊥ }
     ensures files { FilesStay (H.files shelf.old) (H.files shelf.new) }
@@ -123,7 +121,7 @@ fn verify_spec<H: Shelf>(
     shelf: &mut H,
 ) -> Result<Finding, FindRefused>
     requires none_begun { H.begun_name shelf.old ≡ None }
-    ensures found { IfOk result (λ f. AnswersListed H.files H.finds Solves (lists_box size spec.now) (job_of spec.now size) shelf.old shelf.new (answer_by f)) }
+    ensures found { IfOk result (λ f. AnswersListed H.Shelf (lists_box size spec.now) (job_of spec.now size) shelf.old shelf.new (answer_by f)) }
     ensures shelf_fault { IsErrOf result FindRefused.ShelfFault → Rose (H.faults shelf.old) (H.faults shelf.new) }
     ensures asked { IsErrOf result FindRefused.ShelfFault → lists_box size spec.now ≡ true }
     ensures no_read_fault { IsErrOf result FindRefused.ReadFault → ⊥ }
@@ -146,7 +144,7 @@ pub(crate) fn verify<H: Shelf>(
     requires none_begun { H.begun_name shelf.old ≡ None }
 
     // The log is accepted exactly where its steps refute the clauses of the listed box. Then no diagram solves the box's job.
-    ensures found { IfOk result (λ f. AnswersVerify H.files H.finds Solves size (spec_of bytes.now) shelf.old shelf.new (answer_by f)) }
+    ensures found { IfOk result (λ f. AnswersVerify H.Shelf size (spec_of bytes.now) shelf.old shelf.new (answer_by f)) }
     ensures shelf_fault { IsErrOf result FindRefused.ShelfFault → Rose (H.faults shelf.old) (H.faults shelf.new) }
     ensures asked { IsErrOf result FindRefused.ShelfFault → IsOkAnd (spec_of bytes.now) (λ b. lists_box size b ≡ true) }
     ensures no_read_fault { IsErrOf result FindRefused.ReadFault → ⊥ }

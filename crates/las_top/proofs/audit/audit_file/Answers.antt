@@ -5,7 +5,7 @@ use Rattle.las_top.specs.declared.run.Status.TheVariants.{Good}
 use Rattle.las_top.specs.Findings.{answer_by}
 use Rattle.las_top.specs.Headline.{HasSolution}
 use Rattle.las_top.specs.Shown.{ShowsListed}
-use Rattle.las_top.specs.Runs.{most_bytes}
+use Rattle.las_top.specs.Answers.{most_bytes}
 use Rattle.las_top.proofs.audit.audit_file.Goals as goal
 
 pub returns-in_ok-audit_bytes-in-Ok-Some-clause-found : goal.returns-in_ok-audit_bytes-in-Ok-Some-clause-found
