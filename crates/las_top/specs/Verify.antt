@@ -11,7 +11,7 @@ use Rattle.las_spec.specs.Briefs.{Brief, job_of}
 use Rattle.las_spec.specs.Texts.{refusal_text}
 use Rattle.cnf_base.specs.Literals.{Cnf, IsRefuted}
 use Rattle.cnf_base.specs.Logs.{LogStep, Tail, LogEnd, Malformed, Limit, first_fault}
-use Rattle.cnf_encode.specs.Clauses.{clause_table}
+use Rattle.cnf_table.specs.Clauses.{clause_table}
 use Rattle.clause_log.specs.Pieces.{read_to_limit}
 use Rattle.clause_log.specs.Steps.{Ahead, Follows, tail_of}
 use Rattle.box_sweep.specs.Lines.{log_name}
