@@ -8,7 +8,7 @@ use Rattle.las_base.specs.declared.Kind.{Kind}
 use Rattle.las_base.specs.declared.Pauli.{Pauli}
 use Rattle.las_base.specs.declared.Cell.{Cell}
 use Rattle.las_base.specs.declared.Port.{Port}
-use Rattle.las_base.specs.Axes.{same_axis, same_kind, has_part, pauli, axes, next_axis, third_axis}
+use Rattle.las_base.specs.Axes.{same_axis, same_kind, same_pauli, has_part, pauli, axes, next_axis, third_axis}
 use Rattle.las_base.specs.Cells.{same_cell}
 use Rattle.las_base.specs.Jobs.{Task, is_port_place}
 use Rattle.grid_box.specs.Drawings.{Drawing, is_y}
@@ -17,11 +17,11 @@ use Rattle.grid_box.specs.PipeRules.{◌==>◌, same_end, is_port_leg, has_port_
 use Rattle.grid_box.specs.Sheets.{Sheet, spans, agree, spells, ports_spell, sheets_join_at, y_sheets_match}
 use Rattle.zx_graph.specs.declared.nodes.NodeSort.{NodeSort}
 use Rattle.zx_graph.specs.Graphs.{sort_at, spider_kind, kind_on_free, first_index}
-use Rattle.zx_flow.specs.Flows.{is_port, same_pauli, is_spider, is_y_end, is_kept_by}
+use Rattle.zx_flow.specs.Flows.{is_port, is_spider, is_y_end, is_kept_by}
 use Rattle.sheet_flow.specs.FromSheets.{pauli_at}
 use Rattle.sheet_flow.specs.Joints.{Shows, paulis, sheets_join_on}
 use Rattle.grid_box.proofs.ScanLemmas.{same_axis-is}
-use Rattle.sheet_flow.proofs.JointLemmas.{joint_law, parts_are}
+use Rattle.sheet_flow.proofs.JointLemmas.{joint_law, parts_are, same_pauli-parts}
 use Rattle.zx_graph.proofs.NumberLemmas.{at_all}
 use Rattle.sheet_flow.proofs.NodeLabels.{pauli_chosen}
 
@@ -155,7 +155,8 @@ port_here ss p letter (s ∷ []) apart only shows spelled =
     let parts = parts_are ss s p.z_axis Kind.Z (record { beside = ap (λ a. same_axis a p.z_axis) axis ∙ apart; kind = same_kind-is (kind_on (leg_of s) p.z_axis) Kind.Z kind }) in
     let letters = and_parts (agree (spans ss s.pipe p.z_axis) (has_part Kind.Z letter)) (agree (spans ss s.pipe (third_axis s.pipe.axis p.z_axis)) (has_part Kind.X letter)) (and_parts (spells ss s.pipe p.z_axis letter) true spelled).0 in
     and_from (same_pauli letter (pauli_at ss s.pipe s.which)) true
-    (and_from (agree (has_part Kind.X letter) (has_part Kind.X (pauli_at ss s.pipe s.which))) (agree (has_part Kind.Z letter) (has_part Kind.Z (pauli_at ss s.pipe s.which)))
+    (same_pauli-parts letter (pauli_at ss s.pipe s.which)
+    ∙ and_from (agree (has_part Kind.X letter) (has_part Kind.X (pauli_at ss s.pipe s.which))) (agree (has_part Kind.Z letter) (has_part Kind.Z (pauli_at ss s.pipe s.which)))
     (ap (agree (has_part Kind.X letter)) parts.1 ∙ flip (spans ss s.pipe (third_axis s.pipe.axis p.z_axis)) (has_part Kind.X letter) letters.1)
     (ap (agree (has_part Kind.Z letter)) parts.0 ∙ flip (spans ss s.pipe p.z_axis) (has_part Kind.Z letter) letters.0))
     refl

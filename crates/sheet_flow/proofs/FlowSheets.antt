@@ -7,7 +7,7 @@ use Rattle.las_base.specs.declared.Kind.{Kind}
 use Rattle.las_base.specs.declared.Pauli.{Pauli}
 use Rattle.las_base.specs.declared.Cell.{Cell}
 use Rattle.las_base.specs.declared.Port.{Port}
-use Rattle.las_base.specs.Axes.{has_part, same_axis, same_kind, axes}
+use Rattle.las_base.specs.Axes.{has_part, same_axis, same_kind, same_pauli, axes}
 use Rattle.las_base.specs.Cells.{same_cell}
 use Rattle.las_base.specs.Jobs.{Task, IsTask, is_port_place, distinct_cells}
 use Rattle.grid_box.specs.declared.Leg.{Leg}
@@ -18,7 +18,7 @@ use Rattle.grid_box.specs.Sheets.{Sheet, Serves, agree, spells, sheets_join_at, 
 use Rattle.grid_box.proofs.ScanLemmas.{same_cell-is}
 use Rattle.zx_graph.specs.declared.nodes.NodeSort.{NodeSort}
 use Rattle.zx_graph.specs.Graphs.{zx_of, node_cells, sort_at, edge_of, spider_kind, first_index}
-use Rattle.zx_flow.specs.Flows.{Labelled, all_pass, at_nodes, labels_at, is_port, is_y_end, is_spider, is_kept_by, same_pauli}
+use Rattle.zx_flow.specs.Flows.{Labelled, all_pass, at_nodes, labels_at, is_port, is_y_end, is_spider, is_kept_by}
 use Rattle.sheet_flow.specs.FromSheets.{pauli_at, labels_from, sheets_from, LabelsGiveSheets, SheetsAreFlows}
 use Rattle.sheet_flow.specs.Joints.{paulis, sheets_join_on}
 use Rattle.zx_graph.proofs.NumberLemmas.{at_all}

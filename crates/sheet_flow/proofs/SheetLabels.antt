@@ -6,14 +6,14 @@ use Rattle.std.proofs.lemmas.List.{length-map}
 use Rattle.las_base.specs.declared.Kind.{Kind}
 use Rattle.las_base.specs.declared.Pauli.{Pauli}
 use Rattle.las_base.specs.declared.Cell.{Cell}
-use Rattle.las_base.specs.Axes.{has_part}
+use Rattle.las_base.specs.Axes.{has_part, same_pauli}
 use Rattle.las_base.specs.Cells.{cell_before}
 use Rattle.las_base.proofs.Rising.{filter_all}
 use Rattle.grid_box.specs.Legs.{legs}
 use Rattle.grid_box.specs.PipeRules.{is_bare, named_cells, everywhere, has_port_pipe, y_cube_has_one_k_leg, has_no_three_axes, colours_match, port_shows_z}
 use Rattle.grid_box.specs.Sheets.{agree, sheets_join_at, y_sheets_match, ports_spell}
 use Rattle.zx_graph.specs.Graphs.{zx_of, node_cells, edge_of}
-use Rattle.zx_flow.specs.Flows.{all_pass, at_nodes, is_port, is_y_end, is_spider, is_kept_by, same_pauli}
+use Rattle.zx_flow.specs.Flows.{all_pass, at_nodes, is_port, is_y_end, is_spider, is_kept_by}
 use Rattle.sheet_flow.specs.FromSheets.{pauli_at, labels_from, SheetsGiveLabels}
 use Rattle.zx_graph.proofs.NumberLemmas.{at_all}
 use Rattle.sheet_flow.proofs.NodeLabels.{nodes_pass, edges_pass, labelled}

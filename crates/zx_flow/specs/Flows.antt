@@ -3,7 +3,7 @@ use Rattle.std.specs.Prelude.{◌≡◌, ◌↔◌, position, ℕ, suc, Bool, tr
 use Rattle.std.specs.List.{list_all, zip, flat_map, enumerate_from}
 use Rattle.las_base.specs.declared.Kind.{Kind}
 use Rattle.las_base.specs.declared.Pauli.{Pauli}
-use Rattle.las_base.specs.Axes.{has_part, swapped, other_kind, same_kind}
+use Rattle.las_base.specs.Axes.{has_part, swapped, other_kind, same_kind, same_pauli}
 use Rattle.grid_box.specs.PipeRules.{◌==>◌}
 use Rattle.grid_box.specs.Sheets.{agree, is_odd, all_or_none}
 use Rattle.zx_graph.specs.declared.nodes.NodeSort.{NodeSort}
@@ -11,10 +11,6 @@ use Rattle.zx_graph.specs.declared.graph.Edge.{Edge}
 use Rattle.zx_flow.specs.declared.BadLabel.{BadLabel}
 use Rattle.zx_graph.specs.Graphs.{Graph}
 use Rattle.zx_flow.specs.Labels.{Label}
-
--- the Paulis are one
-abbrev pub same_pauli : Pauli → Pauli → Bool
-same_pauli p q = agree (has_part Kind.X p) (has_part Kind.X q) && agree (has_part Kind.Z p) (has_part Kind.Z q)
 
 -- the Paulis at the ends that stand at a node
 abbrev pub at_ends : ℕ → Edge × Label → List Pauli

@@ -3,7 +3,7 @@ use Rattle.std.specs.Prelude.{ℕ, Bool, not, nat_eq, List, map}
 use Rattle.std.specs.List.{list_all}
 use Rattle.las_base.specs.declared.Kind.{Kind}
 use Rattle.las_base.specs.declared.Pauli.{Pauli}
-use Rattle.las_base.specs.Axes.{has_part}
+use Rattle.las_base.specs.Axes.{has_part, same_pauli}
 use Rattle.grid_box.specs.PipeRules.{◌==>◌}
 use Rattle.grid_box.specs.Sheets.{agree, is_odd}
 use Rattle.zx_graph.specs.declared.nodes.NodeSort.{NodeSort}
@@ -15,7 +15,7 @@ use Rattle.zx_flow.specs.declared.ends.Asked.TheVariants.{Letter, OneOrY, Part, 
 use Rattle.zx_flow.specs.declared.rules.NodeRule.{NodeRule}
 use Rattle.zx_flow.specs.declared.rules.NodeRule.TheVariants as rule
 use Rattle.zx_flow.specs.Labels.{Label}
-use Rattle.zx_flow.specs.Flows.{same_pauli, is_one_or_y, at_ends, labels_at, is_port, is_y_end, is_spider, is_kept_by}
+use Rattle.zx_flow.specs.Flows.{is_one_or_y, at_ends, labels_at, is_port, is_y_end, is_spider, is_kept_by}
 
 -- a Pauli passes what is asked of it
 abbrev pub passes : Asked → Pauli → Bool
