@@ -1,5 +1,5 @@
 -- What is solved in sheets is solved in flows, and the other way round.
-use Rattle.std.proofs.Common.{◌≡◌, ℕ, zero, suc, ◌<◌, Bool, true, false, nat_eq, List, [], ◌∷◌, ◌++◌, map, length, get_or, slice_get, Option, Some, refl, sym, ap, subst, ◌∙◌, arith}
+use Rattle.std.proofs.Common.{◌≡◌, ℕ, suc, ◌<◌, Bool, true, false, nat_eq, List, [], ◌∷◌, ◌++◌, map, length, get_or, Option, sym, subst, arith}
 use Rattle.std.specs.List.{AllByRecursion, list_all}
 use Rattle.std.proofs.lemmas.Bool.{and_parts, eqb-true}
 use Rattle.std.proofs.lemmas.Option.{slice_get-get_or}
@@ -18,7 +18,6 @@ use Rattle.zx_graph.specs.Graphs.{zx_of}
 use Rattle.zx_flow.specs.Flows.{HasFlow}
 use Rattle.sheet_flow.proofs.FlowSheets.{sheets_are_flows}
 use Rattle.box_sweep.specs.Lines.{is_found}
-use Rattle.box_sweep.specs.Logged.{IsTrueBox}
 use Rattle.box_sweep.specs.Partial.{IsBrokenOff}
 use Rattle.box_sweep.specs.Solutions.{SolvesInSheets}
 use Rattle.box_sweep.specs.Sweeps.{AreTried, AreTrue, HasSwept, Tried, box_at, boxes_in_order, by_found}

@@ -19,7 +19,6 @@ use Rattle.sheet_flow.proofs.SheetLabels.{sheets_give_labels}
 use Rattle.sheet_flow.proofs.TaskLemmas.{word_long}
 use Rattle.las_spec.specs.Briefs.{Brief}
 use Rattle.las_top.specs.declared.run.Status.TheVariants.{Good}
-use Rattle.lasre_codec.specs.declared.refusal.LasreRefused.{LasreRefused}
 use Rattle.las_top.specs.Answers.{Answer, no_with}
 use Rattle.las_top.specs.Audit.{or_later, first_unserved, answer_to_breaches, audit_of}
 use Rattle.las_top.specs.Zx.{zx_by, zx_of_lasre, zx_text}

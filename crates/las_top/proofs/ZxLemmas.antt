@@ -1,5 +1,5 @@
 -- The texts of flows, one after the other.
-use Rattle.std.proofs.Common.{◌≡◌, ℕ, suc, ◌+◌, ◌<◌, ◌≤◌, List, [], ◌∷◌, ◌++◌, length, drop, get_or, refl, sym, ap, ◌∙◌, arith, drop_of_length-le}
+use Rattle.std.proofs.Common.{◌≡◌, ℕ, suc, ◌+◌, ◌<◌, ◌≤◌, List, [], ◌++◌, length, drop, get_or, sym, ap, ◌∙◌, arith, drop_of_length-le}
 use Rattle.std.proofs.lemmas.List.{append_assoc, append-nil, at_drop_more}
 use Rattle.las_base.specs.declared.Pauli.{Pauli}
 use Rattle.grid_box.specs.Drawings.{Drawing}

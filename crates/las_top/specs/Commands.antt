@@ -2,7 +2,7 @@
 use Rattle.std.specs.Prelude.{◌≤◌, IsTrue}
 use Rattle.las_io.specs.Names.{is_lawful_name}
 use Rattle.las_words.specs.declared.command.Command.{Command}
-use Rattle.las_words.specs.declared.command.Command.TheVariants.{Sweep, Audit, Bench}
+use Rattle.las_words.specs.declared.command.Command.TheVariants.{Sweep, Bench}
 use Rattle.las_top.specs.declared.run.Asking.{Asking}
 use Rattle.las_top.specs.declared.run.Asking.TheVariants as asking
 use Rattle.las_top.specs.Runs.{Asked}

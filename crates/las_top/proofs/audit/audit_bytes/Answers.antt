@@ -1,4 +1,4 @@
-use Rattle.std.proofs.Common.{◌≡◌, ◌∙◌, sym, ap}
+use Rattle.std.proofs.Common.{◌∙◌, sym, ap}
 use Rattle.lasre_codec.specs.Documents.{Lasre, lasre_as}
 use Rattle.las_top.specs.Audit.{audit_of}
 use Rattle.las_top.specs.Findings.{answer_by}

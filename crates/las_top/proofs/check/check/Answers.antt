@@ -1,4 +1,4 @@
-use Rattle.std.proofs.Common.{◌≡◌, ◌∙◌, Some, None, codes, sym, ap}
+use Rattle.std.proofs.Common.{◌∙◌, codes, sym, ap}
 use Rattle.grid_box.specs.PipeRules.{IsValid}
 use Rattle.lasre_codec.specs.Documents.{Lasre, lasre_as}
 use Rattle.las_top.specs.Answers.{no_with, yes_with}

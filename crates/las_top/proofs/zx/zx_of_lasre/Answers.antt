@@ -1,4 +1,4 @@
-use Rattle.std.proofs.Common.{◌≡◌, ◌∙◌, None, sym}
+use Rattle.std.proofs.Common.{◌∙◌, sym}
 use Rattle.las_top.proofs.SolutionLemmas.{valid_where, served}
 use Rattle.las_top.proofs.zx.zx_of_lasre.Goals as goal
 
