@@ -20,7 +20,6 @@ use Rattle.las_spec.specs.Briefs.{Brief, IsBrief, brief_of, once, port_of, lette
 use Rattle.las_spec.proofs.Lists.{all_of_each, all_so, no_position, no_position_made, map_back, filter_back}
 use Rattle.las_spec.proofs.OnceLemmas.{apart, apart-cells}
 use Rattle.las_spec.proofs.Distinct.{unseen, first_is_new, first_not_seen, rest_is_apart, cells_once, sizes_once}
-use Rattle.las_spec.proofs.Members.{brief_writes}
 
 -- ---- rows of the table
 
@@ -165,6 +164,10 @@ no_flow_refusal t h =
 -- what a job writes, in a document with these boxes
 abbrev pub job_writes : Task → List Size → Written
 job_writes t boxes = written_by t.size t.ports t.flows t.forbidden boxes
+
+-- what the parts of a brief write
+abbrev pub brief_writes : Brief → Written
+brief_writes b = written_by b.task.size b.task.ports b.task.flows b.task.forbidden b.boxes
 
 no_job_refusal : (t : Task) (boxes : List Size) → IsTask t → job_refusal (job_writes t boxes) ≡ None
 unfolding job_refusal

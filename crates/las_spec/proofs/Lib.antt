@@ -3,14 +3,7 @@ pub mod OnceLemmas
 pub mod WrittenLemmas
 pub mod BriefLemmas
 pub mod SweepLemmas
-pub mod TextLemmas
-pub mod RefusedLemmas
 pub mod Lists
-pub mod Shapes
-pub mod Members
 pub mod Distinct
 pub mod Lawful
-pub mod SpecValues
-pub mod ReadBackLemmas
-pub mod JobLemmas
 pub mod OrderLemmas

@@ -1,11 +1,9 @@
 -- Lists of which each element passes a test, and lists that were made from others.
 use Rattle.std.proofs.Common.{◌≡◌, ℕ, ◌+◌, Bool, true, not, cond, nat_lt, List, [], ◌∷◌, ◌++◌, map, length, Option, Some, None, refl, ap, ◌∙◌, arith}
-use Rattle.std.specs.Prelude.{option_map, option_and_then, position}
+use Rattle.std.specs.Prelude.{position}
 use Rattle.std.specs.List.{list_all, filter_map, prefix_len}
 use Rattle.std.proofs.lemmas.Bool.{and_parts, and_from, le-ltb}
 use Rattle.std.proofs.lemmas.List.Folds.{list_all-map}
-use Rattle.serde_json.specs.Data.{Data}
-use Rattle.json_shape.specs.Arrays.{each}
 
 pub all_of_each : {X : Type 0} (test : X → Bool) → ((x : X) → test x ≡ true) → (xs : List X) → list_all test xs ≡ true
 all_of_each test h [] = refl
@@ -38,14 +36,6 @@ map_back f g h (x ∷ xs) = ap (λ y. y ∷ map g (map f xs)) (h x) ∙ ap (λ y
 pub filter_back : {A B : Type 0} (f : A → B) (g : B → Option A) → ((x : A) → g (f x) ≡ Some x) → (xs : List A) → filter_map g (map f xs) ≡ xs
 filter_back f g h [] = refl
 filter_back f g h (x ∷ xs) = rw (h x) (ap (λ ys. x ∷ ys) (filter_back f g h xs))
-
--- what is read from values that were made from things, of which each passes a test
-pub each_made : {A B : Type 0} (test : B → Bool) (f : Data → Option A) (g : B → Data) (h : B → A) → ((x : B) → test x ≡ true → f (g x) ≡ Some (h x)) → (xs : List B) → list_all test xs ≡ true
-    → each f (map g xs) ≡ Some (map h xs)
-each_made test f g h one [] e = refl
-each_made test f g h one (x ∷ xs) e =
-    let s = and_parts (test x) (list_all test xs) e in
-    ap (option_and_then (λ y. option_map (λ ys. y ∷ ys) (each f (map g xs)))) (one x s.0) ∙ ap (option_map (λ ys. h x ∷ ys)) (each_made test f g h one xs s.1)
 
 -- no thing's image passes
 pub no_position_made : {A B : Type 0} (test : B → Bool) (g : A → B) (pass : A → Bool) → ((x : A) → pass x ≡ true → not (test (g x)) ≡ true) → (xs : List A) → list_all pass xs ≡ true → position test (map g xs) ≡ None

@@ -1,5 +1,4 @@
 pub mod Written
-pub mod Documents
 pub mod Refusals
 pub mod Briefs
 pub mod Boxes

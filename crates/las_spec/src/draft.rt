@@ -3,7 +3,7 @@ use las_base::{Axis, Cell, Pauli, Size, Way};
 
 /// A port as it is written: none for a direction or a z axis that there is not.
 #[derive(Clone, Copy, PartialEq, Eq, Debug)]
-pub(crate) struct WrittenPort {
+pub struct WrittenPort {
     pub place: Cell,
     pub direction: Option<(Way, Axis)>,
     pub z_axis: Option<Axis>,
@@ -11,7 +11,7 @@ pub(crate) struct WrittenPort {
 
 /// A specification as it is written: none for a letter that there is not.
 #[derive(Drop)]
-pub(crate) struct Draft {
+pub struct Draft {
     pub size: Size,
     pub ports: Vec<WrittenPort>,
     pub words: Vec<Vec<Option<Pauli>>>,

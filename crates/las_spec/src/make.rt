@@ -92,7 +92,7 @@ fn spec_of_draft(alloc: Global, draft: &Draft) -> Result<Spec, AllocError>
 }
 
 /// The job that a draft writes, or its first refusal. Its boxes play no part.
-pub(crate) fn job_from(alloc: Global, draft: &Draft) -> Result<Job, SpecRefused>
+pub fn job_from(alloc: Global, draft: &Draft) -> Result<Job, SpecRefused>
     ensures ok { IfOk result (λ j. job_given (written_as draft.now) ≡ Ok j) }
     ensures err { IfErr result (λ e. e ≢ Memory → job_given (written_as draft.now) ≡ Err e) }
 {
@@ -106,7 +106,7 @@ pub(crate) fn job_from(alloc: Global, draft: &Draft) -> Result<Job, SpecRefused>
 }
 
 /// The specification that a draft writes, or its first refusal.
-pub(crate) fn spec_from(alloc: Global, draft: Draft) -> Result<Spec, SpecRefused>
+pub fn spec_from(alloc: Global, draft: Draft) -> Result<Spec, SpecRefused>
     ensures ok { IfOk result (λ s. spec_given (written_as draft) ≡ Ok s) }
     ensures err { IfErr result (λ e. e ≢ Memory → spec_given (written_as draft) ≡ Err e) }
 {

@@ -1,7 +1,6 @@
 // Why a specification is refused, and the text that says so.
 ghost use Rattle.std.specs.Prelude.{◌≡◌, IfOk, string_bytes};
-ghost use Rattle.las_spec.specs.Documents.{field_name};
-ghost use Rattle.las_spec.specs.Texts.{refusal_text};
+ghost use Rattle.las_spec.specs.Texts.{field_name, refusal_text};
 
 use std::alloc::{AllocError, Global};
 use std::fmt;
@@ -75,7 +74,7 @@ impl Field {
 
 impl fmt::Display for Field {
     ghost use Rattle.std.specs.Prelude.{Some};
-    ghost use Rattle.las_spec.specs.Documents.{field_name};
+    ghost use Rattle.las_spec.specs.Texts.{field_name};
 
     ghost output = { λ f. Some (field_name f) };
 

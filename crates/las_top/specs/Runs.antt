@@ -2,7 +2,8 @@
 use Rattle.std.specs.Prelude.{◌≡◌, ◌⊎◌, ℕ, ◌+◌, ◌≤◌, Bool, true, false, List, length, IsOkAnd}
 use Rattle.las_base.specs.declared.Size.{Size}
 use Rattle.las_io.specs.Moves.{GivesAll, GivesCount, IsAllLeft}
-use Rattle.las_spec.specs.Briefs.{Brief, spec_of}
+use Rattle.las_spec.specs.Briefs.{Brief}
+use Rattle.spec_codec.specs.Readings.{spec_of}
 use Rattle.las_top.specs.Answers.{Answer, most_bytes, refused, too_long_reason}
 use Rattle.las_top.specs.Audit.{AnswersSpec}
 use Rattle.las_top.specs.Check.{AnswersCheck}

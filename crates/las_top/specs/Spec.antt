@@ -1,8 +1,10 @@
 -- What `spec` answers to a document.
 use Rattle.std.specs.Prelude.{ℕ, List, Result, Ok, Err}
 use Rattle.las_spec.specs.declared.refusal.SpecRefused.{SpecRefused}
-use Rattle.las_spec.specs.Briefs.{Brief, spec_of}
-use Rattle.las_spec.specs.Texts.{spec_text_of, refusal_text}
+use Rattle.las_spec.specs.Briefs.{Brief}
+use Rattle.spec_codec.specs.Readings.{spec_of}
+use Rattle.las_spec.specs.Texts.{refusal_text}
+use Rattle.spec_codec.specs.Texts.{spec_text_of}
 use Rattle.las_top.specs.Answers.{Answer, yes_with, refused}
 
 -- what is answered to a specification, or to its first refusal

@@ -4,7 +4,8 @@ use Rattle.las_base.specs.declared.Axis.TheVariants.{J}
 use Rattle.las_io.specs.Moves.{GivesAll, GivesCount, IsAllLeft}
 use Rattle.las_io.specs.Shelves.{File}
 use Rattle.las_spec.specs.declared.refusal.SpecRefused.{SpecRefused}
-use Rattle.las_spec.specs.Briefs.{Brief, spec_of}
+use Rattle.las_spec.specs.Briefs.{Brief}
+use Rattle.spec_codec.specs.Readings.{spec_of}
 use Rattle.las_spec.specs.Texts.{refusal_text}
 use Rattle.las_gen.specs.Ghz.{ghz_of}
 use Rattle.box_sweep.specs.declared.ending.Ending.{Ending}

@@ -3,7 +3,7 @@ ghost use Rattle.std.specs.Prelude.{◌≡◌, ◌↔◌, None, true, IfOk, IsOk
 ghost use Rattle.las_io.specs.Counts.{Rose};
 ghost use Rattle.las_io.specs.Names.{is_lawful_name};
 ghost use Rattle.las_io.specs.Shelves.{FilesStay};
-ghost use Rattle.las_spec.specs.Briefs.{spec_of};
+ghost use Rattle.spec_codec.specs.Readings.{spec_of};
 ghost use Rattle.lasre_codec.specs.Documents.{IsLasre, lasre_as};
 ghost use Rattle.las_top.specs.Audit.{AnswersFile, AnswersSpec, first_unserved, audit_of, audit_answer};
 ghost use Rattle.las_top.specs.Findings.{answer_by};
@@ -17,8 +17,9 @@ use crate::finding::{FindRefused, Finding, Refusal};
 use crate::run::MOST_BYTES;
 use grid_box::Broken;
 use las_io::{FetchRefused, Shelf, fetch_all};
-use las_spec::{Job, Spec, SpecRefused, job, read_spec, same_job};
+use las_spec::{Job, Spec, SpecRefused, job, same_job};
 use lasre_codec::{Lasre, LasreRefused, read_lasre};
+use spec_codec::read_spec;
 use std::alloc::{AllocError, Global};
 use surface_rules::first_bad_sheet;
 

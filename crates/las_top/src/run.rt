@@ -2,7 +2,7 @@
 ghost use Rattle.std.specs.Prelude.{◌≡◌, ◌⊎◌, None, Some, false, true, IfOk, IsOkAnd, IsErrOf};
 ghost use Rattle.las_io.specs.Counts.{Rose};
 ghost use Rattle.las_io.specs.Shelves.{FilesStay};
-ghost use Rattle.las_spec.specs.Briefs.{spec_of};
+ghost use Rattle.spec_codec.specs.Readings.{spec_of};
 ghost use Rattle.las_top.specs.Answers.{EndsLogs, IsAnswer, number_of};
 ghost use Rattle.las_top.specs.Commands.{IsInBounds, IsLawful, command_as};
 ghost use Rattle.las_top.specs.Findings.{answer_by};

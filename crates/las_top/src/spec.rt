@@ -4,7 +4,8 @@ ghost use Rattle.las_top.specs.Findings.{answer_by};
 ghost use Rattle.las_top.specs.Spec.{spec_answer};
 
 use crate::finding::{Finding, Refusal};
-use las_spec::{SpecRefused, read_spec, spec_text};
+use las_spec::SpecRefused;
+use spec_codec::{read_spec, spec_text};
 use std::alloc::{AllocError, Global};
 
 /// What `spec` finds in a document.

@@ -3,7 +3,7 @@ ghost use Rattle.std.specs.Prelude.{◌≡◌, ◌⊎◌, ◌≢◌, ◌≤◌, 
 ghost use Rattle.las_base.specs.declared.Axis.TheVariants.{J};
 ghost use Rattle.las_io.specs.Counts.{Rose};
 ghost use Rattle.las_io.specs.Shelves.{FilesStay};
-ghost use Rattle.las_spec.specs.Briefs.{spec_of};
+ghost use Rattle.spec_codec.specs.Readings.{spec_of};
 ghost use Rattle.las_top.specs.Headline.{Solves};
 ghost use Rattle.las_gen.specs.Ghz.{ghz_of};
 ghost use Rattle.las_top.specs.Answers.{EndsLogs, IsAnswer};
@@ -19,7 +19,8 @@ use box_sweep::{Ending, SweepRefused, sweep};
 use las_base::Axis;
 use las_gen::ghz_spec;
 use las_io::{ReadRefused, Shelf, Sink, Source, read_all};
-use las_spec::{Spec, SpecRefused, read_spec};
+use las_spec::{Spec, SpecRefused};
+use spec_codec::read_spec;
 use std::alloc::{AllocError, Global};
 
 // How many lessons `bench` learns for a box at most.

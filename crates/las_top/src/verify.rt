@@ -4,7 +4,8 @@ ghost use Rattle.las_io.specs.Counts.{Rose};
 ghost use Rattle.las_io.specs.Names.{is_lawful_name};
 ghost use Rattle.las_io.specs.Shelves.{FilesStay};
 ghost use Rattle.las_base.specs.Cells.{same_size};
-ghost use Rattle.las_spec.specs.Briefs.{job_of, spec_of};
+ghost use Rattle.las_spec.specs.Briefs.{job_of};
+ghost use Rattle.spec_codec.specs.Readings.{spec_of};
 ghost use Rattle.cnf_base.specs.Literals.{IsRefuted};
 ghost use Rattle.clause_log.specs.Pieces.{log_told};
 ghost use Rattle.las_top.specs.Findings.{answer_by};
@@ -16,8 +17,9 @@ use clause_log::{FoundLog, StepReader, StepRefused, Steps, find_log};
 use cnf_base::Formula;
 use las_base::Size;
 use las_io::Shelf;
-use las_spec::{Job, Spec, SpecRefused, job, read_spec};
+use las_spec::{Job, Spec, SpecRefused, job};
 use log_check::{Check, CheckRefused, check};
+use spec_codec::read_spec;
 use std::alloc::Global;
 
 // What is found of the steps of a log, for a formula.

@@ -19,8 +19,8 @@ use Rattle.las_base.specs.declared.Cell.{Cell}
 use Rattle.las_base.specs.declared.Size.{Size}
 use Rattle.las_base.specs.Cells.{holds, volume, index, cells, numbers_from}
 use Rattle.las_base.proofs.Blocks.{all_cells, all_indexed, length-numbers_from}
-use Rattle.las_spec.specs.Texts.{array_of}
-use Rattle.las_spec.proofs.Shapes.{array_back}
+use Rattle.spec_codec.specs.Texts.{array_of}
+use Rattle.spec_codec.proofs.Shapes.{array_back}
 use Rattle.lasre_codec.specs.Entries.{is_one, is_bit, is_one_at, marks, flow_part}
 use Rattle.lasre_codec.specs.Texts.{bit_value, grid_value}
 

@@ -13,7 +13,7 @@ use Rattle.las_base.proofs.Blocks.{length-numbers_from}
 use Rattle.grid_box.specs.Drawings.{Drawing, IsDrawing}
 use Rattle.grid_box.specs.Surfaces.{Surfaces, IsSurfaces, sheets_by}
 use Rattle.las_spec.specs.declared.refusal.SpecRefused.{SpecRefused}
-use Rattle.las_spec.specs.Briefs.{job_in}
+use Rattle.spec_codec.specs.Readings.{job_in}
 use Rattle.lasre_codec.specs.declared.member.Member.{Member}
 use Rattle.lasre_codec.specs.declared.refusal.LasreRefused.{LasreRefused}
 use Rattle.lasre_codec.specs.declared.refusal.LasreRefused.TheVariants.{Length, Shape}

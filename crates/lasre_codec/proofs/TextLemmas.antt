@@ -7,12 +7,12 @@ use Rattle.serde_json.specs.Read.{max_depth}
 use Rattle.las_base.specs.declared.Cell.{Cell}
 use Rattle.las_base.specs.declared.Size.{Size}
 use Rattle.las_base.specs.Cells.{numbers_from}
-use Rattle.las_spec.specs.Texts.{array_of}
+use Rattle.spec_codec.specs.Texts.{array_of}
 use Rattle.las_spec.proofs.Lists.{all_of_each}
-use Rattle.las_spec.proofs.Shapes.{limits_near}
+use Rattle.spec_codec.proofs.Shapes.{limits_near}
 use Rattle.json_shape.specs.Plain.{IsPlain}
 use Rattle.json_shape.proofs.Printed.{printed_back}
-use Rattle.las_spec.proofs.SpecValues.{items_plain, items_shallow, whole_plain, options_plain, ports_plain, words_plain, options_shallow, ports_shallow, words_shallow}
+use Rattle.spec_codec.proofs.SpecValues.{items_plain, items_shallow, whole_plain, options_plain, ports_plain, words_plain, options_shallow, ports_shallow, words_shallow}
 use Rattle.lasre_codec.specs.declared.member.Member.{Member}
 use Rattle.lasre_codec.specs.declared.member.Member.TheVariants.{ColorI, ColorJ, ColorKM, ColorKP, CorrIJ, CorrIK, CorrJI, CorrJK, CorrKI, CorrKJ, ExistI, ExistJ, ExistK, NodeY, MaxI, MaxJ, MaxK, Optional, Ports, Stabilizers}
 use Rattle.lasre_codec.specs.Members.{members, is_stack}

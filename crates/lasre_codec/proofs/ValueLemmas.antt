@@ -11,9 +11,9 @@ use Rattle.json_shape.specs.Arrays.{is_object}
 use Rattle.json_shape.specs.Grids.{entries, has_lengths}
 use Rattle.las_base.specs.declared.Size.{Size}
 use Rattle.las_base.specs.Cells.{volume, numbers_from}
-use Rattle.las_spec.specs.Briefs.{job_in}
-use Rattle.las_spec.specs.Texts.{array_of}
-use Rattle.las_spec.proofs.JobLemmas.{job_is_read_back}
+use Rattle.spec_codec.specs.Readings.{job_in}
+use Rattle.spec_codec.specs.Texts.{array_of}
+use Rattle.spec_codec.proofs.JobLemmas.{job_is_read_back}
 use Rattle.lasre_codec.specs.declared.member.Member.{Member}
 use Rattle.lasre_codec.specs.declared.member.Member.TheVariants.{ColorI, ColorJ, ColorKM, ColorKP, CorrIJ, CorrIK, CorrJI, CorrJK, CorrKI, CorrKJ, ExistI, ExistJ, ExistK, NodeY, MaxI, MaxJ, MaxK, Optional, Ports, Stabilizers}
 use Rattle.lasre_codec.specs.declared.refusal.LasreRefused.TheVariants.{Length, Bit}

@@ -7,7 +7,7 @@ use Rattle.serde_json.specs.Data.{Data}
 use Rattle.serde_json.specs.Events.{items_len, SendsValue, SendsItems, SendsMembers}
 use Rattle.serde_json.specs.View.{items_of}
 use Rattle.las_base.specs.Cells.{numbers_from}
-use Rattle.las_spec.specs.Texts.{array_of}
+use Rattle.spec_codec.specs.Texts.{array_of}
 use Rattle.lasre_codec.specs.declared.member.Member.{Member}
 use Rattle.lasre_codec.specs.Members.{member_name, members}
 use Rattle.lasre_codec.specs.Documents.{Lasre}

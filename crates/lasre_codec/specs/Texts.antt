@@ -13,7 +13,7 @@ use Rattle.las_base.specs.Axes.{same_kind}
 use Rattle.las_base.specs.Cells.{numbers_from}
 use Rattle.grid_box.specs.Drawings.{kinds_at, is_y}
 use Rattle.grid_box.specs.Surfaces.{has_sheet, sheets_of}
-use Rattle.las_spec.specs.Texts.{array_of, whole_value, options_value, port_value, word_value}
+use Rattle.spec_codec.specs.Texts.{array_of, whole_value, options_value, port_value, word_value}
 use Rattle.las_spec.specs.Texts as spec
 use Rattle.lasre_codec.specs.declared.member.Member.{Member}
 use Rattle.lasre_codec.specs.declared.member.Member.TheVariants.{ColorI, ColorJ, ColorKM, ColorKP, CorrIJ, CorrIK, CorrJI, CorrJK, CorrKI, CorrKJ, ExistI, ExistJ, ExistK, MaxI, MaxJ, MaxK, Optional, Ports, Stabilizers}

@@ -15,8 +15,9 @@ use crate::refusal::LasreRefused;
 use crate::sheets::build_sheets;
 use grid_box::{Diagram, Sheets};
 use json_shape::{Entry, has_lengths, read_json};
-use las_spec::{Job, SpecRefused, read_job};
+use las_spec::{Job, SpecRefused};
 use serde_json::Value;
+use spec_codec::read_job;
 use std::alloc::Global;
 
 /// A job, a diagram in a box of its size, and the sheets of each of its flows.

@@ -8,9 +8,10 @@ use crate::Member;
 use crate::member::MEMBERS;
 use grid_box::{Diagram, Sheets};
 use las_base::{Axis, Cell, Kind};
-use las_spec::{Job, options_value, port_values, word_values};
+use las_spec::Job;
 use serde::{Described, Serialize, Serializer};
 use serde_json::{Value, to_vec};
+use spec_codec::{options_value, port_values, word_values};
 use std::alloc::{AllocError, Global};
 use std::marker::Model;
 

@@ -1,7 +1,0 @@
-use Rattle.std.proofs.Common.{◌≡◌, map, take}
-use Rattle.serde_json.specs.View.{view}
-use Rattle.las_spec.specs.Texts.{port_value}
-use Rattle.las_spec.proofs.text.port_values.Given as goal
-
-abbrev pub invariant-loop-port : goal.invariant-loop-port
-invariant-loop-port l = map view l.values.items ≡ map port_value (take l.port-index l.ports)
