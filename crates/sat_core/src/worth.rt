@@ -1,5 +1,5 @@
 //! Which lessons a reduction takes. Long lessons are worth least, since they rarely imply anything, and among
-//! those of one length the oldest.
+//! those of one length the newest.
 
 ghost use Rattle.std.specs.Prelude.{◌≡◌, ◌<◌, IfOk, map, true};
 ghost use Rattle.clause_arena.specs.Clauses.{is_live, places};
