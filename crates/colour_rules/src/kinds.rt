@@ -45,9 +45,16 @@ fn shows_z(port: Port, legs: &[Leg]) -> bool
     legs.iter().all(|leg| is_lawful_at(port, *leg))
 }
 
-/// Whether a port is at another cell, or its leg among these shows kind Z on the port's z axis.
-pub(crate) fn port_shows_z_at(port: Port, cell: Cell, legs: &[Leg]) -> bool
+// Whether a port is at another cell, or its leg among these shows kind Z on the port's z axis.
+fn port_shows_z_at(port: Port, cell: Cell, legs: &[Leg]) -> bool
     ensures { result ≡ (same_cell port.place cell ==> list_all (λ l. is_port_leg port l ==> same_kind (kind_on l port.z_axis) Kind.Z) legs.now) }
 {
     port.place != cell || shows_z(port, legs)
+}
+
+/// Whether each port is at another cell, or its leg among these shows kind Z on the port's z axis.
+pub(crate) fn ports_show_z_at(ports: &[Port], cell: Cell, legs: &[Leg]) -> bool
+    ensures { result ≡ list_all (λ p. same_cell p.place cell ==> list_all (λ l. is_port_leg p l ==> same_kind (kind_on l p.z_axis) Kind.Z) legs.now) ports.now }
+{
+    ports.iter().all(|port| port_shows_z_at(*port, cell, legs))
 }

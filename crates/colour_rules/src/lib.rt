@@ -12,7 +12,7 @@ ghost use Rattle.colour_rules.specs.Rules.{keeps};
 mod kinds;
 
 use grid_box::{Broken, Diagram, first_breach};
-use kinds::{are_of_one_kind, port_shows_z_at};
+use kinds::{are_of_one_kind, ports_show_z_at};
 use las_base::{Axis, Cell};
 use las_spec::Job;
 
@@ -40,10 +40,7 @@ fn port_shows_z(job: &Job, diagram: &Diagram, cell: Cell) -> bool
     requires { IsOnGrid cell }
     ensures { result ≡ port_shows_z job.now diagram.now cell }
 {
-    let legs = diagram.legs(cell);
-    job.ports()
-        .iter()
-        .all(|port| port_shows_z_at(*port, cell, &legs))
+    ports_show_z_at(job.ports(), cell, &diagram.legs(cell))
 }
 
 // Whether a rule holds at a cell.
