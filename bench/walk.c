@@ -23,7 +23,7 @@ static void start(uint32_t vars, uint64_t room) {
     entries = malloc(vars * sizeof *entries);
 }
 
-/* Behind its literals a clause has its length, a free word, its id and two links. */
+/* A clause is its length, a free word, its id and two links, then its literals, and its length once more. */
 static uint64_t link_of(uint64_t r, int slot) {
     uint64_t to;
     memcpy(&to, words + r + 4 + 2 * slot, sizeof to);
@@ -32,12 +32,12 @@ static uint64_t link_of(uint64_t r, int slot) {
 
 static void set_link(uint64_t r, int slot, uint64_t to) { memcpy(words + r + 4 + 2 * slot, &to, sizeof to); }
 
-static int slot_of(uint64_t r, uint32_t lit) { return words[r - words[r]] != lit; }
+static int slot_of(uint64_t r, uint32_t lit) { return words[r + 8] != lit; }
 
 static void add(uint64_t id, const uint32_t *lits, uint32_t n) {
-    memcpy(words + end, lits, n * sizeof *lits);
-    uint64_t r = end + n;
-    words[r] = n, words[r + 1] = 0, memcpy(words + r + 2, &id, sizeof id), end = r + 8;
+    uint64_t r = end;
+    words[r] = n, words[r + 1] = 0, memcpy(words + r + 2, &id, sizeof id);
+    memcpy(words + r + 8, lits, n * sizeof *lits), words[r + 8 + n] = n, end = r + 9 + n;
     for (int slot = 0; slot < 2; slot++) set_link(r, slot, heads[lits[slot]]), heads[lits[slot]] = r;
 }
 
@@ -61,7 +61,7 @@ static uint64_t walk(uint32_t f) {
     uint64_t before = NOWHERE, hand = heads[f];
     while (hand != NOWHERE) {
         uint64_t r = hand;
-        uint32_t n = words[r], *lits = words + r - n, k = 2;
+        uint32_t n = words[r], *lits = words + r + 8, k = 2;
         int slot = slot_of(r, f);
         uint32_t other = lits[1 - slot];
         hand = link_of(r, slot);
@@ -97,7 +97,7 @@ static double now(void) {
 
 static void chain(uint32_t clauses, int rounds) {
     uint64_t seen = 0;
-    start(clauses + 1, clauses * UINT64_C(10));
+    start(clauses + 1, clauses * UINT64_C(11));
     for (uint64_t j = 0; j < clauses; j++) {
         uint32_t at = 309017 * j % clauses;
         add(j + 1, (uint32_t[]){2 * at + 1, 2 * at + 2}, 2);
@@ -109,7 +109,7 @@ static void chain(uint32_t clauses, int rounds) {
 
 static void ternary(uint32_t clauses, uint32_t vars, int turns) {
     uint64_t seen = 0, conflicts = 0, places_met = 0;
-    start(vars, clauses * UINT64_C(11));
+    start(vars, clauses * UINT64_C(12));
     for (uint32_t held = 0; held < clauses;) {
         uint32_t lits[3];
         for (int i = 0; i < 3; i++) lits[i] = draw(2 * vars);
