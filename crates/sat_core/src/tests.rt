@@ -45,7 +45,9 @@ fn two_clauses(alloc: Global) -> Result<Formula, AllocError> {
 
 // All four clauses of two variables.
 fn four_clauses(alloc: Global) -> Result<Formula, AllocError> {
-    let mut f = two_clauses(alloc)?;
+    let mut f = Formula::new(alloc, 2);
+    f.take(&[Lit(0), Lit(2)])?;
+    f.take(&[Lit(1), Lit(2)])?;
     f.take(&[Lit(0), Lit(3)])?;
     f.take(&[Lit(1), Lit(3)])?;
     Ok(f)
