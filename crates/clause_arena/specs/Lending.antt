@@ -5,13 +5,13 @@ use Rattle.cnf_base.specs.declared.literal.Lit.{Lit}
 use Rattle.cnf_base.specs.contracts.literal.Lit as lit
 use Rattle.clause_arena.specs.contracts.arena.Arena.{the_row}
 use Rattle.clause_arena.specs.Clauses.{is_live, lits_of, with_lits}
-use Rattle.clause_arena.specs.Words.{clauses_in, overwritten, lits_place}
+use Rattle.clause_arena.specs.Words.{Block, clauses_in, rewritten}
 
 -- the arena ends with the clause's literals as they were left
-abbrev pub LendsLits : MutBor (List Lit) → ℕ → MutBor (List Lit) → Fml
-LendsLits s at r = Lends the_row (Array lit.the_row 0) s r (λ w. overwritten s.now (lits_place at) w)
+abbrev pub LendsLits : MutBor Block → ℕ → MutBor (List Lit) → Fml
+LendsLits s at r = Lends the_row (Array lit.the_row 0) s r (λ w. rewritten s.now at w)
 
 -- other literals in a live clause, as many as it has, change that clause's literals and nothing else
 abbrev pub LitsChanged : Type 0
-LitsChanged = (ws : List Lit) (r : ℕ) (lits : List Lit) → is_live (clauses_in ws) r ≡ true → length lits ≡ length (lits_of (clauses_in ws) r)
-    → clauses_in (overwritten ws (lits_place r) lits) ≡ with_lits (clauses_in ws) r lits
+LitsChanged = (b : Block) (r : ℕ) (lits : List Lit) → is_live (clauses_in b) r ≡ true → length lits ≡ length (lits_of (clauses_in b) r)
+    → clauses_in (rewritten b r lits) ≡ with_lits (clauses_in b) r lits

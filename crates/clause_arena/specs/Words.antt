@@ -1,45 +1,15 @@
--- How clauses stand in the block of words: the eight words of a clause, its literals behind them, and at last how many literals there are once more.
-use Rattle.std.specs.Prelude.{ℕ, zero, suc, ◌+◌, ◌-◌, ◌*◌, ◌/◌, ◌%◌, Bool, true, false, List, [], ◌∷◌, ◌++◌, length, take, drop, Option, Some, None, if◌then◌else◌, nat_eq, nat_le, slice_index_or}
+-- How clauses stand in an arena: each has a head of four words and a span, and the literals of all stand in one block. What is most often read, the first two literals and the links, is in the head.
+use Rattle.std.specs.Prelude.{ℕ, zero, suc, ◌+◌, ◌*◌, Bool, true, false, ◌&&◌, ◌||◌, List, [], ◌∷◌, ◌++◌, length, take, drop, Option, Some, None, if◌then◌else◌, nat_eq, nat_le, nat_lt, slice_index_or, slice_set}
 use Rattle.cnf_base.specs.declared.literal.Lit.{Lit}
-use Rattle.clause_arena.specs.Clauses.{Live}
+use Rattle.clause_arena.specs.declared.ClauseRef.{ClauseRef}
+use Rattle.clause_arena.specs.declared.arena.Span.{Span}
+use Rattle.clause_arena.specs.Clauses.{Live, place_of}
 
--- two words as one number
-abbrev pub wide : ℕ → ℕ → ℕ
-wide low high = low + high * 4294967296
-
--- the marks are 1 for a retired clause, 2 for a first link and 4 for a second link, added up
-abbrev pub is_retired : ℕ → Bool
-is_retired marks = nat_eq (marks % 2) 1
-
--- a link, by its mark and its two words
-abbrev pub link_at : ℕ → ℕ → ℕ → Option ℕ
-link_at mark low high = if nat_eq (mark % 2) 1 then Some (wide low high) else None
-
--- n words from a place on
-abbrev pub run : (ℕ → Lit) → ℕ → ℕ → List Lit
-run w a zero = []
-run w a (suc n) = w a ∷ run w (suc a) n
-
--- the clause whose eight words begin at a place
-abbrev pub live_at : (ℕ → Lit) → ℕ → Live
-live_at w p =
-    record { place = p; id = wide (w (p + 2)).0 (w (p + 3)).0; lits = run w (p + 8) (w p).0; first = link_at ((w (p + 1)).0 / 2) (w (p + 4)).0 (w (p + 5)).0; second = link_at ((w (p + 1)).0 / 4) (w (p + 6)).0 (w (p + 7)).0 }
-
--- a clause in front of the others, but for a retired one, and none where no clause begins
-abbrev pub step : Bool → Bool → Live → List Live → List Live
-step false r c cs = []
-step true false c cs = c ∷ cs
-step true true c cs = cs
-
--- where the clause begins that ends before a place, by the last word there
-abbrev pub begin : (ℕ → Lit) → ℕ → ℕ
-begin w e = e - 9 - (w (e - 1)).0
-
--- the clauses of the words before a place, the newest first
-abbrev pub clauses_to : ℕ → (ℕ → Lit) → ℕ → List Live
-clauses_to zero w e = []
-clauses_to (suc n) w e =
-    step (nat_le (begin w e + 9 + (w (begin w e)).0) e) (is_retired (w (begin w e + 1)).0) (live_at w (begin w e)) (clauses_to n w (begin w e))
+-- what an arena holds
+pub record Block : Type 0 where
+  pub heads : List Lit
+  pub spans : List Span
+  pub lits : List Lit
 
 -- a word of this number
 abbrev pub word : ℕ → Lit
@@ -49,14 +19,88 @@ word n = record { 0 = n }
 abbrev pub word_in : List Lit → ℕ → Lit
 word_in ws i = slice_index_or ws i (word 0)
 
--- the live clauses of a block of words
-unfoldable pub clauses_in : List Lit → List Live
-clauses_in ws = clauses_to (length ws) (word_in ws) (length ws)
+-- a word of the head of the clause with a number: its first two literals, then its two links
+abbrev pub head_in : List Lit → ℕ → ℕ → Lit
+head_in hs p k = word_in hs (4 * p + k)
+
+-- what is read where there is no span
+abbrev pub no_span : Span
+no_span = record { start = 0; size = 0; id = 0; is_retired = true; left = None; right = None }
+
+-- the span of the clause with a number
+abbrev pub span_in : List Span → ℕ → Span
+span_in ss p = slice_index_or ss p no_span
+
+-- a link, by its word: a place that fits into one, or none, or the place that the span has
+abbrev pub link_at : ℕ → Option ClauseRef → Option ℕ
+link_at near far = if nat_lt near 4294967294 then Some near else if nat_eq near 4294967294 then place_of far else None
+
+-- n words from a place on
+abbrev pub run : (ℕ → Lit) → ℕ → ℕ → List Lit
+run w a zero = []
+run w a (suc n) = w a ∷ run w (suc a) n
+
+-- the literals of the clause with a number
+abbrev pub lits_at : Block → ℕ → List Lit
+lits_at b p = run (word_in b.lits) (span_in b.spans p).start (span_in b.spans p).size
+
+-- the literals begin with these two
+abbrev pub begins : Lit → Lit → List Lit → Bool
+begins a b [] = false
+begins a b (x ∷ []) = false
+begins a b (x ∷ y ∷ ls) = nat_eq x.0 a.0 && nat_eq y.0 b.0
+
+-- the two literals of a head are the first two, or they are equal and tell nothing
+abbrev pub tells_right : Lit → Lit → List Lit → Bool
+tells_right a b ls = nat_eq a.0 b.0 || begins a b ls
+
+-- what stands at one number: where its literals begin and stop, whether a clause is seen there, and which
+pub record Seat : Type 0 where
+  pub start : ℕ
+  pub stop : ℕ
+  pub is_seen : Bool
+  pub clause : Live
+
+-- what stands at a number
+abbrev pub seat_at : Block → ℕ → Seat
+seat_at b p =
+    record {
+      start = (span_in b.spans p).start;
+      stop = (span_in b.spans p).start + (span_in b.spans p).size;
+      is_seen = if (span_in b.spans p).is_retired then false else tells_right (head_in b.heads p 0) (head_in b.heads p 1) (lits_at b p);
+      clause =
+          record {
+            place = p;
+            id = (span_in b.spans p).id;
+            lits = lits_at b p;
+            first = link_at (head_in b.heads p 2).0 (span_in b.spans p).left;
+            second = link_at (head_in b.heads p 3).0 (span_in b.spans p).right;
+          };
+    }
+
+-- a clause in front of the others where it is seen, and none at all where its literals do not fit
+abbrev pub step : Bool → Bool → Live → List Live → List Live
+step false seen c cs = []
+step true true c cs = c ∷ cs
+step true false c cs = cs
+
+-- the clauses of the first n seats, the newest first: the literals of each stop where those of the next begin, or before
+abbrev pub clauses_to : (ℕ → Seat) → ℕ → ℕ → List Live
+clauses_to s zero e = []
+clauses_to s (suc p) e = step (nat_le (s p).stop e) (s p).is_seen (s p).clause (clauses_to s p (s p).start)
+
+-- the live clauses of an arena
+unfoldable pub clauses_in : Block → List Live
+clauses_in b = clauses_to (seat_at b) (length b.spans) (length b.lits)
 
 -- the words with others written from a place on, as many as there are at first
 unfoldable pub overwritten : List Lit → ℕ → List Lit → List Lit
 overwritten ws a xs = take (length ws) (take a ws ++ (xs ++ drop (length xs) (drop a ws)) ++ drop (length (take a ws ++ (xs ++ drop (length xs) (drop a ws)))) ws)
 
--- where the literals of a clause begin
-abbrev pub lits_place : ℕ → ℕ
-lits_place r = r + 8
+-- the head of a clause tells no literals
+abbrev pub hidden : List Lit → ℕ → List Lit
+hidden hs p = slice_set (slice_set hs (4 * p) (word 0)) (4 * p + 1) (word 0)
+
+-- the arena with other literals in the clause with a number
+abbrev pub rewritten : Block → ℕ → List Lit → Block
+rewritten b p xs = record { heads = hidden b.heads p; spans = b.spans; lits = overwritten b.lits (span_in b.spans p).start xs }

@@ -1,14 +1,17 @@
-//! The block of words. A clause is eight words and, behind them, its literals: how many literals there are,
-//! its marks, its id and its two links, each of the last three in two words, the low one first. A clause is
-//! named by the place of the first of these eight. So its links and its first two literals, which are all that
-//! most visits read, stand side by side. Behind the literals their number stands once more, so that the block
-//! can be read from its end whatever the literals are.
+//! The clauses of an arena. Each has a head of four words, its first two literals and its two links, which
+//! are all that most visits read; a span, which tells where its literals stand; and its literals, in one block
+//! with those of all others. Heads stand side by side, sixteen bytes each, so that the heads of many clauses stay
+//! in a processor's cache where the clauses themselves would not.
+//!
+//! The two literals of a head are a copy. Where literals are lent to be written, the copy is made to tell
+//! nothing first: two equal words stand for that.
 
-ghost use Rattle.std.specs.Prelude.{◌≡◌, ◌<◌, ◌≤◌, ◌+◌, ◌%◌, ◌/◌, ◌^◌, IfOk, OnOk, OnErr, [], ◌∷◌, length, vec_len, true, false, slice_set, map};
+ghost use Rattle.std.specs.Prelude.{◌≡◌, ℕ, ◌<◌, ◌≤◌, ◌+◌, ◌*◌, ◌^◌, IfOk, OnOk, OnErr, [], ◌∷◌, length, true, false, slice_set, slice_index_or, swap, map};
 ghost use Rattle.std.specs.Borrow.{sem};
-ghost use Rattle.clause_arena.specs.Clauses.{is_live, lits_of, id_of, link_of, with_link, without, place_of, places, added};
-ghost use Rattle.clause_arena.specs.Words.{clauses_in, word, word_in, wide};
+ghost use Rattle.clause_arena.specs.Clauses.{is_live, lits_of, id_of, link_of, with_link, with_lits, without, place_of, places, added};
+ghost use Rattle.clause_arena.specs.Words.{clauses_in, head_in, span_in, seat_at, tells_right, hidden, word};
 ghost use Rattle.clause_arena.specs.Lending.{LendsLits};
+ghost use Rattle.clause_arena.specs.Links.{near_of, far_put};
 ghost use Rattle.clause_arena.specs.Packing.{moves_of, packed_by, moved_link};
 
 use crate::{ClauseRef, Moves};
@@ -16,19 +19,40 @@ use cnf_base::Lit;
 use std::alloc::{AllocError, Global};
 use std::marker::Model;
 
-/// A block of clauses.
+// The word of a link that leads nowhere.
+const NONE: u32 = 4_294_967_295;
+
+// The word of a link to a place that does not fit into a word: the span has it.
+const FAR: u32 = 4_294_967_294;
+
+// Where a clause's literals stand, and what is seldom read.
+#[derive(Clone, Copy)]
+pub struct Span {
+    pub start: usize,
+    pub size: usize,
+    pub id: u64,
+    pub is_retired: bool,
+    pub left: Option<ClauseRef>,
+    pub right: Option<ClauseRef>,
+}
+
+/// Clauses in tables: their heads, their spans and the literals of all.
 #[derive(Drop)]
 pub struct Arena {
-    words: Vec<Lit>,
+    heads: Vec<Lit>,
+    spans: Vec<Span>,
+    lits: Vec<Lit>,
 }
 
 impl Model for Arena {
-    ghost use Rattle.std.specs.Prelude.{List};
-    ghost use Rattle.cnf_base.specs.declared.literal.Lit.{Lit};
+    ghost use Rattle.std.specs.Prelude.{◌≡◌, ◌*◌, length};
+    ghost use Rattle.clause_arena.specs.Words.{Block};
 
-    ghost Value = { List Lit };
+    ghost Value = { Block };
 
-    ghost view = { λ a. a.words.items };
+    ghost view = { λ a. record { heads = a.heads.items; spans = a.spans.items; lits = a.lits.items } };
+
+    ghost invariant = { λ a. length a.heads.items ≡ 4 * length a.spans.items };
 }
 
 impl Arena {
@@ -37,7 +61,9 @@ impl Arena {
         ensures { clauses_in result ≡ [] }
     {
         Arena {
-            words: Vec::new(alloc),
+            heads: Vec::new(alloc),
+            spans: Vec::new(alloc),
+            lits: Vec::new(alloc),
         }
     }
 
@@ -48,33 +74,34 @@ impl Arena {
         ensures fresh { IfOk result (λ r. is_live (clauses_in self.old) r.0 ≡ false) }
         ensures err { OnErr result (self.new ≡ self.old) }
     {
-        self.append(id, lits, lits.len() as u32)
+        self.append(id, lits)
     }
 
-    // Puts a clause of n literals behind all others.
-    fn append(&mut self, id: u64, lits: &[Lit], n: u32) -> Result<ClauseRef, AllocError>
-        requires { n ≡ length lits.now }
+    // Puts a clause behind all others, at the next number.
+    fn append(&mut self, id: u64, lits: &[Lit]) -> Result<ClauseRef, AllocError>
         ensures ok { IfOk result (λ r. clauses_in self.new ≡ added r.0 id lits.now ∷ clauses_in self.old) }
         ensures fresh { IfOk result (λ r. is_live (clauses_in self.old) r.0 ≡ false) }
-        ensures place { IfOk result (λ r. r.0 ≡ length self.old) }
-        ensures long { IfOk result (λ r. length self.new ≡ length self.old + length lits.now + 9) }
+        ensures place { IfOk result (λ r. r.0 ≡ length self.old.spans) }
+        ensures long { IfOk result (λ r. length self.new.spans ≡ length self.old.spans + 1) }
         ensures err { OnErr result (self.new ≡ self.old) }
     {
-        self.words.reserve(lits.len() + 9)?;
-        let place = self.words.len() as u64;
-        let header = [
-            Lit(n),
-            Lit(0),
-            low_word(id),
-            high_word(id),
-            Lit(0),
-            Lit(0),
-            Lit(0),
-            Lit(0),
-        ];
-        self.words.extend_from_slice(&header)?;
-        self.words.extend_from_slice(lits)?;
-        self.words.push(Lit(n))?;
+        self.heads.reserve(4)?;
+        self.spans.reserve(1)?;
+        self.lits.reserve(lits.len())?;
+        let place = self.spans.len() as u64;
+        let span = Span {
+            start: self.lits.len(),
+            size: lits.len(),
+            id,
+            is_retired: false,
+            left: None,
+            right: None,
+        };
+        let (first, second) = first_two(lits);
+        self.heads
+            .extend_from_slice(&[first, second, Lit(NONE), Lit(NONE)])?;
+        self.spans.push(span)?;
+        self.lits.extend_from_slice(lits)?;
         Ok(ClauseRef(place))
     }
 
@@ -83,9 +110,8 @@ impl Arena {
         requires { is_live (clauses_in self.now) r.0 ≡ true }
         ensures { result.now ≡ lits_of (clauses_in self.now) r.0 }
     {
-        let at = r.0 as usize;
-        let n = self.words[at].0 as usize;
-        &self.words[at + 8..at + 8 + n]
+        let span = self.span(r);
+        &self.lits[span.start..span.start + span.size]
     }
 
     /// The literals of a live clause, to be written. Whatever is left there, nothing else changes, as the
@@ -95,9 +121,35 @@ impl Arena {
         ensures* writes_back { sem 𝓛 (LendsLits self.entry r.0 result) }
         ensures value { result.now ≡ lits_of (clauses_in self.old) r.0 }
     {
-        let at = r.0 as usize;
-        let n = self.words[at].0 as usize;
-        self.words.slice_mut(at + 8..at + 8 + n)
+        self.hide(r);
+        let span = self.span(r);
+        self.lits.slice_mut(span.start..span.start + span.size)
+    }
+
+    /// The first literal of a live clause at 0, or its second at 1: the same as `lits` has there, but mostly
+    /// without a look at them.
+    pub fn front(&self, r: ClauseRef, k: u8) -> Lit
+        requires live { is_live (clauses_in self.now) r.0 ≡ true }
+        requires near { k < 2 }
+        requires long { 2 ≤ length (lits_of (clauses_in self.now) r.0) }
+        ensures { result ≡ slice_index_or (lits_of (clauses_in self.now) r.0) k (word 0) }
+    {
+        if self.head(r, 0) == self.head(r, 1) {
+            self.lits(r)[k as usize]
+        } else {
+            self.head(r, k as usize)
+        }
+    }
+
+    /// Lets two literals of a live clause change places.
+    pub fn swap(&mut self, r: ClauseRef, i: usize, j: usize)
+        requires live { is_live (clauses_in self.old) r.0 ≡ true }
+        requires i_in { i < length (lits_of (clauses_in self.old) r.0) }
+        requires j_in { j < length (lits_of (clauses_in self.old) r.0) }
+        ensures { clauses_in self.new ≡ with_lits (clauses_in self.old) r.0 (swap (lits_of (clauses_in self.old) r.0) i j) }
+    {
+        self.lits_mut(r).swap(i, j);
+        self.show(r);
     }
 
     /// The id that a live clause was added with.
@@ -105,7 +157,7 @@ impl Arena {
         requires { is_live (clauses_in self.now) r.0 ≡ true }
         ensures { result ≡ id_of (clauses_in self.now) r.0 }
     {
-        self.wide(r, 2)
+        self.span(r).id
     }
 
     /// Where a live clause's link leads: its first at slot 0, its second at slot 1.
@@ -114,20 +166,15 @@ impl Arena {
         requires slot_in { slot < 2 }
         ensures { place_of result ≡ link_of (clauses_in self.now) r.0 slot }
     {
-        let marks = self.word(r, 1);
-        if slot == 0 {
-            if marks / 2 % 2 == 1 {
-                Some(ClauseRef(self.wide(r, 4)))
-            } else {
-                None
-            }
-        } else {
-            if marks / 4 % 2 == 1 {
-                Some(ClauseRef(self.wide(r, 6)))
-            } else {
-                None
-            }
+        let near = self.head(r, 2 + slot as usize).0;
+        if near < FAR {
+            return Some(ClauseRef(u64::from(near)));
         }
+        if near == NONE {
+            return None;
+        }
+        let span = self.span(r);
+        if slot == 0 { span.left } else { span.right }
     }
 
     /// Lets a live clause's link lead to a clause, or nowhere.
@@ -139,28 +186,18 @@ impl Arena {
         self.write_link(r, slot, to);
     }
 
-    // The same, and as many words as before.
+    // The same, and as many numbers as before.
     fn write_link(&mut self, r: ClauseRef, slot: u8, to: Option<ClauseRef>)
         requires live { is_live (clauses_in self.old) r.0 ≡ true }
         requires slot_in { slot < 2 }
         ensures linked { clauses_in self.new ≡ with_link (clauses_in self.old) r.0 slot (place_of to) }
-        ensures long { length self.new ≡ length self.old }
+        ensures long { length self.new.spans ≡ length self.old.spans }
     {
-        let at = r.0 as usize;
-        let marks = self.word(r, 1);
-        let (present, place) = match to {
-            Some(t) => (1, t.0),
-            None => (0, 0),
-        };
-        let low = low_word(place);
-        let high = high_word(place);
-        if slot == 0 {
-            let marks = Lit(marks % 2 + 2 * present + marks / 4 * 4);
-            put_link(&mut self.words, at, marks, 4, low, high);
-        } else {
-            let marks = Lit(marks % 4 + 4 * present + marks / 8 * 8);
-            put_link(&mut self.words, at, marks, 6, low, high);
+        let near = near_of(to);
+        if near == FAR {
+            self.put_far(r, slot, to);
         }
+        self.put_head(r, 2 + slot as usize, Lit(near));
     }
 
     /// Takes a live clause out.
@@ -168,8 +205,9 @@ impl Arena {
         requires { is_live (clauses_in self.old) r.0 ≡ true }
         ensures { clauses_in self.new ≡ without (clauses_in self.old) r.0 }
     {
-        let marks = self.word(r, 1);
-        self.words[r.0 as usize + 1] = Lit(marks / 2 * 2 + 1);
+        let mut span = self.span(r);
+        span.is_retired = true;
+        self.spans[r.0 as usize] = span;
     }
 
     /// The live clauses, the newest first.
@@ -177,21 +215,42 @@ impl Arena {
         ensures { IfOk result (λ v. map (λ r. r.0) v.items ≡ places (clauses_in self.now)) }
     {
         let mut refs = Vec::new(alloc);
-        let mut end = self.words.len();
-        // Before each end stands a clause, and the last word of it tells where it begins.
-        while end >= 9 {
-            let last = self.words[end - 1].0 as usize;
-            let at = (end - 9).saturating_sub(last);
-            let n = self.words[at].0 as usize;
-            if at + 9 + n > end {
+        let mut end = self.lits.len();
+        let mut left = self.spans.len();
+        while left > 0 {
+            let span = self.spans[left - 1];
+            if span.size > end || span.start > end - span.size {
                 break;
             }
-            if self.words[at + 1].0 % 2 == 0 {
-                refs.push(ClauseRef(at as u64))?;
+            left -= 1;
+            if self.is_seen(left, span) {
+                refs.push(ClauseRef(left as u64))?;
             }
-            end = at;
+            end = span.start;
         }
         Ok(refs)
+    }
+
+    /// A number that is above the place of each live clause.
+    pub fn bound(&self) -> u64
+        ensures { (x : ℕ) → is_live (clauses_in self.now) x ≡ true → x < result }
+    {
+        self.spans.len() as u64
+    }
+
+    // Whether a clause is seen at a number whose span is this.
+    fn is_seen(&self, at: usize, span: Span) -> bool
+        requires within { at < length self.now.spans }
+        requires here { span ≡ span_in self.now.spans at }
+        requires fits { span.start + span.size ≤ length self.now.lits }
+        ensures { result ≡ (seat_at self.now at).is_seen }
+    {
+        !span.is_retired
+            && tells_right(
+                self.heads[4 * at],
+                self.heads[4 * at + 1],
+                &self.lits[span.start..span.start + span.size],
+            )
     }
 
     /// Puts the live clauses together without gaps, in their order. Each keeps its id and literals; links
@@ -216,13 +275,11 @@ impl Arena {
         ensures { IfOk result (λ m. m ≡ moves_of (clauses_in self.now)) }
     {
         let mut moves = Moves::new(alloc);
-        let mut end = 0;
         let mut left = refs.len();
         while left > 0 {
+            let new = refs.len() - left;
             left -= 1;
-            let r = refs[left];
-            moves.push(r, ClauseRef(end))?;
-            end = end + self.size(r) as u64 + 9;
+            moves.push(refs[left], ClauseRef(new as u64))?;
         }
         Ok(moves)
     }
@@ -233,46 +290,122 @@ impl Arena {
         ensures { IfOk result (λ a. clauses_in a ≡ packed_by moves.now (clauses_in self.now)) }
     {
         let mut copy = Arena {
-            words: Vec::new(alloc),
+            heads: Vec::new(alloc),
+            spans: Vec::new(alloc),
+            lits: Vec::new(alloc),
         };
         let mut left = refs.len();
         while left > 0 {
             left -= 1;
             let r = refs[left];
-            let new = copy.append(self.id(r), self.lits(r), self.size(r))?;
+            let new = copy.append(self.id(r), self.lits(r))?;
             copy.write_link(new, 0, moved(moves, self.link(r, 0)));
             copy.write_link(new, 1, moved(moves, self.link(r, 1)));
         }
         Ok(copy)
     }
 
-    // How many literals a clause has.
-    fn size(&self, r: ClauseRef) -> u32
+    // The span of a live clause.
+    fn span(&self, r: ClauseRef) -> Span
         requires { is_live (clauses_in self.now) r.0 ≡ true }
-        ensures size { result ≡ length (lits_of (clauses_in self.now) r.0) }
-        ensures small { length self.now < 2 ^ 63 }
+        ensures { result ≡ span_in self.now.spans r.0 }
     {
-        self.words[r.0 as usize].0
+        self.spans[r.0 as usize]
     }
 
-    // One of the eight words of a clause.
-    fn word(&self, r: ClauseRef, k: usize) -> u32
-        requires live { is_live (clauses_in self.now) r.0 ≡ true }
-        requires near { k < 8 }
-        ensures { result ≡ (word_in self.now (r.0 + k)).0 }
+    // Where the head of a live clause begins.
+    fn place(&self, r: ClauseRef) -> usize
+        requires { is_live (clauses_in self.now) r.0 ≡ true }
+        ensures at { result ≡ 4 * r.0 }
+        ensures room { result + 4 ≤ length self.now.heads }
+        ensures small { length self.now.heads < 2 ^ 63 }
     {
-        self.words[r.0 as usize + k].0
+        let _ = &self.spans;
+        4 * r.0 as usize
     }
 
-    // Two of the eight words of a clause as one number.
-    fn wide(&self, r: ClauseRef, k: usize) -> u64
+    // A word of the head of a live clause.
+    fn head(&self, r: ClauseRef, k: usize) -> Lit
         requires live { is_live (clauses_in self.now) r.0 ≡ true }
-        requires near { k + 1 < 8 }
-        ensures { result ≡ wide (word_in self.now (r.0 + k)).0 (word_in self.now (r.0 + (k + 1))).0 }
+        requires near { k < 4 }
+        ensures { result ≡ head_in self.now.heads r.0 k }
     {
-        let low = self.word(r, k) as u64;
-        let high = self.word(r, k + 1) as u64;
-        low + high * 4294967296
+        let at = self.place(r);
+        self.heads[at + k]
+    }
+
+    // Writes a word of the head of a live clause.
+    fn put_head(&mut self, r: ClauseRef, k: usize, to: Lit)
+        requires live { is_live (clauses_in self.old) r.0 ≡ true }
+        requires near { k < 4 }
+        ensures put { self.new ≡ record self.old { heads = slice_set self.old.heads (4 * r.0 + k) to } }
+        ensures room { 4 * r.0 + 4 ≤ length self.old.heads }
+    {
+        let at = self.place(r);
+        self.heads[at + k] = to;
+    }
+
+    // Writes a link's place into the span of a live clause.
+    fn put_far(&mut self, r: ClauseRef, slot: u8, to: Option<ClauseRef>)
+        requires { is_live (clauses_in self.old) r.0 ≡ true }
+        ensures { self.new ≡ record self.old { spans = slice_set self.old.spans r.0 (far_put slot to (span_in self.old.spans r.0)) } }
+    {
+        let mut span = self.span(r);
+        if slot == 0 {
+            span.left = to;
+        } else {
+            span.right = to;
+        }
+        self.spans[r.0 as usize] = span;
+    }
+
+    // Lets the head of a live clause tell no literals.
+    fn hide(&mut self, r: ClauseRef)
+        requires { is_live (clauses_in self.old) r.0 ≡ true }
+        ensures hidden { self.new ≡ record self.old { heads = hidden self.old.heads r.0 } }
+        ensures same { clauses_in self.new ≡ clauses_in self.old }
+    {
+        let at = self.place(r);
+        self.heads[at] = Lit(0);
+        self.heads[at + 1] = Lit(0);
+    }
+
+    // Lets the head of a live clause tell its first two literals.
+    fn show(&mut self, r: ClauseRef)
+        requires { is_live (clauses_in self.old) r.0 ≡ true }
+        ensures { clauses_in self.new ≡ clauses_in self.old }
+    {
+        let (first, second) = first_two(self.lits(r));
+        let at = self.place(r);
+        self.heads[at] = first;
+        self.heads[at + 1] = second;
+    }
+}
+
+// The first two literals, or two equal ones where there are not two.
+fn first_two(lits: &[Lit]) -> (Lit, Lit)
+    ensures { tells_right result.0 result.1 lits.now ≡ true }
+{
+    if lits.len() < 2 {
+        return (Lit(0), Lit(0));
+    }
+    (lits[0], lits[1])
+}
+
+// Whether two literals are the first two, or equal.
+fn tells_right(first: Lit, second: Lit, lits: &[Lit]) -> bool
+    ensures { result ≡ tells_right first second lits.now }
+{
+    first == second || lits.len() >= 2 && lits[0] == first && lits[1] == second
+}
+
+// The word of a link.
+fn near_of(to: Option<ClauseRef>) -> u32
+    ensures { result ≡ near_of to }
+{
+    match to {
+        Some(r) => r.0.min(u64::from(FAR)) as u32,
+        None => NONE,
     }
 }
 
@@ -284,29 +417,4 @@ fn moved(moves: &Moves, link: Option<ClauseRef>) -> Option<ClauseRef>
         Some(r) => moves.place(r),
         None => None,
     }
-}
-
-// The low half of a number, as a word.
-fn low_word(n: u64) -> Lit
-    ensures { result ≡ word (n % 4294967296) }
-{
-    Lit((n % 4294967296) as u32)
-}
-
-// The high half of a number, as a word.
-fn high_word(n: u64) -> Lit
-    ensures { result ≡ word (n / 4294967296) }
-{
-    Lit((n / 4294967296) as u32)
-}
-
-// Writes the marks of a clause and the two words of a link, which begin at the k-th word.
-fn put_link(words: &mut Vec<Lit>, at: usize, marks: Lit, k: usize, low: Lit, high: Lit)
-    requires in_words { at + 8 ≤ vec_len words.old }
-    requires near { k + 1 < 8 }
-    ensures { words.new.items ≡ slice_set (slice_set (slice_set words.old.items (at + 1) marks) (at + k) low) (at + k + 1) high }
-{
-    words[at + 1] = marks;
-    words[at + k] = low;
-    words[at + k + 1] = high;
 }

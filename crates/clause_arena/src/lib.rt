@@ -1,7 +1,7 @@
-//! Clauses in one block of 32-bit words. Callers see an arena as the list of its live clauses, the newest
-//! first (`clauses_in`): each has a place, an id, its literals, and two links to other clauses, which
-//! whoever threads clauses into lists may set. Literals are lent without a copy, to read and to write. A
-//! retired clause is no longer seen, and its words stay until the arena is packed.
+//! Clauses. Callers see an arena as the list of its live clauses, the newest first (`clauses_in`): each has a
+//! place, an id, its literals, and two links to other clauses, which whoever threads clauses into lists may
+//! set. Literals are lent without a copy, to read and to write. A retired clause is no longer seen, and what it
+//! takes up stays until the arena is packed.
 #![tactic(auto)]
 
 mod arena;

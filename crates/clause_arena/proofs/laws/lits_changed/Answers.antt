@@ -1,4 +1,4 @@
-use Rattle.clause_arena.proofs.Writing.{lits_changed as law}
+use Rattle.clause_arena.proofs.Heads.{lits_changed as law}
 use Rattle.clause_arena.proofs.laws.lits_changed.Goals as goal
 
 pub returns : goal.returns
