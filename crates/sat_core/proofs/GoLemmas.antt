@@ -1,7 +1,7 @@
 -- A clause that is no reason is let go, and the search is ready as before.
-use Rattle.std.proofs.Common.{◌≡◌, ℕ, zero, suc, ◌+◌, ◌<◌, ◌≤◌, Bool, true, false, cond, ◌&&◌, not, nat_eq, nat_lt, List, [], ◌∷◌, ◌++◌, length, take, drop, get_or, Option, Some, None, refl, sym, ap, ◌∙◌, subst, arith, inl, inr}
+use Rattle.std.proofs.Common.{◌≡◌, ℕ, zero, suc, ◌+◌, ◌<◌, ◌≤◌, Bool, true, false, cond, not, nat_eq, nat_lt, List, [], ◌∷◌, ◌++◌, length, take, drop, get_or, Option, Some, None, refl, sym, ap, ◌∙◌, subst, arith, inl, inr}
 use Rattle.std.specs.List.{list_any}
-use Rattle.std.proofs.lemmas.Bool.{and_parts, or_parts, or_cases, or_left, or_right, both_ways, eqb-true, eq-eqb, ne_eqb, ltb-true, not-true, false_from_ne_true}
+use Rattle.std.proofs.lemmas.Bool.{and_parts, or_parts, or_cases, or_left, or_right, both_ways, eqb-true, eq-eqb, ltb-true, not-true, false_from_ne_true, lt-ltb, le-ltb}
 use Rattle.cnf_base.specs.declared.literal.Lit.{Lit}
 use Rattle.cnf_base.specs.Literals.{variable, same_lit, has_lit}
 use Rattle.cnf_base.proofs.Closed.{same_lit-is}
@@ -12,13 +12,16 @@ use Rattle.clause_arena.proofs.Updates.{without-other, without-live, without-gon
 use Rattle.watch_lists.specs.declared.trail.Entry.{Entry}
 use Rattle.watch_lists.specs.Entries.{entry, entry_of, reason_of, is_assigned, true_by}
 use Rattle.watch_lists.specs.Rows.{times}
+use Rattle.watch_lists.specs.Leaving.{is_marked}
+use Rattle.watch_lists.proofs.RowLemmas.{times-other}
+use Rattle.watch_lists.proofs.ClauseLemmas.{keeps_same}
 use Rattle.watch_lists.specs.Trails.{Seen, IsTrail}
 use Rattle.watch_lists.specs.Fits.{Fits, attached_in, AreReasons, IsNoReason, KeepsClauses}
 use Rattle.watch_lists.proofs.AssignLemmas.{fits_after_retire}
 use Rattle.sat_core.specs.declared.search.Search.{Search}
-use Rattle.sat_core.specs.Standing.{IsPlaced, ArePlaced}
+use Rattle.sat_core.specs.Standing.{IsPlaced}
 use Rattle.sat_core.specs.Ready.{IsReady}
-use Rattle.sat_core.specs.Reducing.{leads_to, is_reason, is_idle, Loses, MayAllGo, places_of}
+use Rattle.sat_core.specs.Reducing.{leads_to, is_reason, is_idle, Loses, MayAllGo, AreMarked, places_of}
 use Rattle.sat_core.proofs.TrailLemmas.{PassesAt, any_at, at_any}
 use Rattle.sat_core.proofs.ReleaseLemmas.{entry_is}
 use Rattle.sat_core.proofs.GainLemmas.{ordered_on}
@@ -81,56 +84,38 @@ pub long_attached : (t : Seen) (cs : List Live) (r : ℕ) → 2 < length (lits_o
 long_attached t cs r long (inl a) = a
 long_attached t cs r long (inr fact) = absurd (let one : length (lits_of cs r) ≡ 1 = ap length fact.alone in omega arith)
 
--- what stays where a clause leaves the lists of watches and then the arena
-pub placed_without : (t u : Seen) (cs ds : List Live) (r : ℕ) → KeepsClauses cs ds → ((x : ℕ) → lits_of ds x ≡ lits_of cs x) → ((x : ℕ) → (x ≡ r → ⊥) → attached_in t cs x ≡ true → attached_in u (without ds r) x ≡ true) → u.entries ≡ t.entries → ArePlaced t cs → ArePlaced u (without ds r)
-placed_without t u cs ds r keeps lits stays entries placed x live = at (placed x (sym (keeps.live x) ∙ sym (without-live ds r x other) ∙ live))
-  where
-    other : x ≡ r → ⊥
-    other e = both_ways (is_live (without ds r) x) (ap (is_live (without ds r)) e ∙ without-gone ds r) live
-
-    at : IsPlaced t cs x → IsPlaced u (without ds r) x
-    at (inl a) = inl (stays x other a)
-    at (inr fact) = inr (record {
-      lit = fact.lit;
-      alone = ap (λ (c : Live). c.lits) (without-other ds r x other) ∙ lits x ∙ fact.alone;
-      true_at_0 = ap (λ es. true_by 0 es fact.lit) entries ∙ fact.true_at_0;
-    })
-
-pub gone_is_ready : (old new : Search) (cs : List Live) (r : ℕ) → IsReady old → is_reason old.trail.entries r ≡ false → new ≡ record old { arena = new.arena; trail = new.trail } → new.trail.entries ≡ old.trail.entries → new.trail.vars ≡ old.trail.vars
-    → Fits new.trail cs → KeepsClauses (clauses_in old.arena) cs → ((x : ℕ) → lits_of cs x ≡ lits_of (clauses_in old.arena) x) → ((x : ℕ) → attached_in new.trail cs x ≡ cond (nat_eq x r) false (attached_in old.trail (clauses_in old.arena) x)) → clauses_in new.arena ≡ without cs r → IsReady new
-gone_is_ready old new cs r ready idle same entries vars fits keeps lits attached left = record {
-  fits = (let P : List Live → Type 0 = λ ds. Fits new.trail ds in subst P (sym left) law.0);
-  placed = (let P : List Live → Type 0 = λ ds. ArePlaced new.trail ds in subst P (sym left) (placed_without old.trail new.trail (clauses_in old.arena) cs r keeps lits stays entries ready.placed));
-  ordered = ordered_on old new.trail ready.ordered vars (λ v h. ap (λ es. is_assigned es v) entries ∙ h) new same;
-}
-  where
-    off : attached_in new.trail cs r ≡ false
-    off = attached r ∙ ap (λ b. cond b false (attached_in old.trail (clauses_in old.arena) r)) (eq-eqb r r refl)
-
-    law : Fits new.trail (without cs r) × ((x : ℕ) → attached_in new.trail (without cs r) x ≡ attached_in new.trail cs x)
-    law = fits_after_retire new.trail cs r fits off (let P : List Entry → Type 0 = λ es. IsNoReason es r in subst P (sym entries) (none_leads old.trail.entries r idle))
-
-    stays : (x : ℕ) → (x ≡ r → ⊥) → attached_in old.trail (clauses_in old.arena) x ≡ true → attached_in new.trail (without cs r) x ≡ true
-    stays x other a = law.1 x ∙ attached x ∙ ap (λ b. cond b false (attached_in old.trail (clauses_in old.arena) x)) (ne_eqb x r other) ∙ a
-
--- on the way: so many of the clauses were let go
+-- on the way: all clauses left the lists of watches, and so many of them the arena
 pub record IsLettingGo (old now : Search) (gone : List ℕ) (n : ℕ) : Type 0 where
-  pub ready : IsReady now
-  pub loses : Loses (clauses_in old.arena) (take n gone) (clauses_in now.arena)
-  pub may_go : MayAllGo now.trail (clauses_in now.arena) (drop n gone)
-  pub lessons : now.lessons ≡ old.lessons
+  pub same : now ≡ record old { arena = now.arena; trail = now.trail }
+  pub entries : now.trail.entries ≡ old.trail.entries
   pub vars : now.trail.vars ≡ old.trail.vars
+  pub fits : Fits now.trail (clauses_in now.arena)
+  pub loses : Loses (clauses_in old.arena) (take n gone) (clauses_in now.arena)
+  pub live : (x : ℕ) → 1 ≤ times x (drop n gone) → is_live (clauses_in now.arena) x ≡ true
+  pub idle : (x : ℕ) → 1 ≤ times x (drop n gone) → is_reason old.trail.entries x ≡ false
+  pub once : (x : ℕ) → times x (drop n gone) ≤ 1
+  pub off : (x : ℕ) → 1 ≤ times x (drop n gone) → attached_in now.trail (clauses_in now.arena) x ≡ false
+  pub placed : (x : ℕ) → is_live (clauses_in now.arena) x ≡ true → times x (drop n gone) ≡ 0 → IsPlaced now.trail (clauses_in now.arena) x
 
--- the others may go still
-pub others_may_go : (t u : Seen) (cs ds : List Live) (r : ℕ) (rest : List ℕ) → MayAllGo t cs (r ∷ rest) → Loses cs (r ∷ []) ds → u.entries ≡ t.entries → MayAllGo u ds rest
-others_may_go t u cs ds r rest may loses entries = record {
-  live = λ x h. loses.live x ∙ without-live cs r x (once_apart r x rest may.once h) ∙ may.live x (some_rest r x rest h);
-  idle = λ x h. (
-      let long : length (lits_of ds x) ≡ length (lits_of cs x) = loses.long x ∙ ap (λ (c : Live). length c.lits) (without-other cs r x (once_apart r x rest may.once h)) in
-      ap (λ n. nat_lt 2 n && not (is_reason u.entries x)) long ∙ ap (λ es. nat_lt 2 (length (lits_of cs x)) && not (is_reason es x)) entries ∙ may.idle x (some_rest r x rest h)
-      );
-  once = once_rest r rest may.once;
+-- all clauses left the lists of watches
+pub begins : (old now : Search) (gone : List ℕ) (marks : List Bool) → IsReady old → MayAllGo old.trail (clauses_in old.arena) gone → AreMarked marks gone → now ≡ record old { arena = now.arena; trail = now.trail } → now.trail ≡ record old.trail { heads = now.trail.heads } → Fits now.trail (clauses_in now.arena) → KeepsClauses (clauses_in old.arena) (clauses_in now.arena) → ((x : ℕ) → lits_of (clauses_in now.arena) x ≡ lits_of (clauses_in old.arena) x)
+    → ((x : ℕ) → attached_in now.trail (clauses_in now.arena) x ≡ cond (is_marked marks x) false (attached_in old.trail (clauses_in old.arena) x)) → IsLettingGo old now gone 0
+begins old now gone marks ready may marked same trail fits keeps lits attached = record {
+  same = same;
+  entries = ap (λ (t : Seen). t.entries) trail;
+  vars = ap (λ (t : Seen). t.vars) trail;
+  fits = fits;
+  loses = keeps;
+  live = λ x h. keeps.live x ∙ may.live x h;
+  idle = λ x h. (idle_parts old.trail (clauses_in old.arena) x (may.idle x h)).1;
+  once = may.once;
+  off = λ x h. attached x ∙ ap (λ b. cond b false (attached_in old.trail (clauses_in old.arena) x)) (marked x ∙ lt-ltb 0 (times x gone) (omega arith));
+  placed = λ x live none. at x (attached x ∙ ap (λ b. cond b false (attached_in old.trail (clauses_in old.arena) x)) (marked x ∙ le-ltb 0 (times x gone) (omega arith))) (ready.placed x (sym (keeps.live x) ∙ live));
 }
+  where
+    at : (x : ℕ) → attached_in now.trail (clauses_in now.arena) x ≡ attached_in old.trail (clauses_in old.arena) x → IsPlaced old.trail (clauses_in old.arena) x → IsPlaced now.trail (clauses_in now.arena) x
+    at x e (inl a) = inl (e ∙ a)
+    at x e (inr fact) = inr (record { lit = fact.lit; alone = lits x ∙ fact.alone; true_at_0 = ap (λ (t : Seen). true_by 0 t.entries fact.lit) trail ∙ fact.true_at_0 })
 
 pub some_at : (rs : List ClauseRef) (i : ℕ) → i < length rs → 1 ≤ times (get_or rs i (record { 0 = 0 })).0 (places_of rs)
 some_at [] i lt = absurd (omega arith)
@@ -150,30 +135,80 @@ take_suc [] i lt = absurd (omega arith)
 take_suc (r ∷ rs) zero lt = refl
 take_suc (r ∷ rs) (suc i) lt = ap (λ ps. r.0 ∷ ps) (take_suc rs i (omega arith))
 
-take_at : (rs : List ClauseRef) (i : ℕ) → i < length rs → take (i + 1) (places_of rs) ≡ take i (places_of rs) ++ (get_or rs i (record { 0 = 0 })).0 ∷ []
+pub take_at : (rs : List ClauseRef) (i : ℕ) → i < length rs → take (i + 1) (places_of rs) ≡ take i (places_of rs) ++ (get_or rs i (record { 0 = 0 })).0 ∷ []
 take_at rs i lt = let e : i + 1 ≡ suc i = omega arith in ap (λ n. take n (places_of rs)) e ∙ take_suc rs i lt
 
-take_whole : (rs : List ClauseRef) (i : ℕ) → length rs ≤ i → take i (places_of rs) ≡ places_of rs
+pub take_whole : (rs : List ClauseRef) (i : ℕ) → length rs ≤ i → take i (places_of rs) ≡ places_of rs
 take_whole [] zero le = refl
 take_whole [] (suc i) le = refl
 take_whole (r ∷ rs) zero le = absurd (omega arith)
 take_whole (r ∷ rs) (suc i) le = ap (λ ps. r.0 ∷ ps) (take_whole rs i (omega arith))
 
-pub first_may_go : (t : Seen) (cs : List Live) (rs : List ClauseRef) (i : ℕ) → i < length rs → MayAllGo t cs (drop i (places_of rs)) → (is_live cs (get_or rs i (record { 0 = 0 })).0 ≡ true) × (is_idle t cs (get_or rs i (record { 0 = 0 })).0 ≡ true)
-first_may_go t cs rs i lt may =
+-- the next clause may go
+pub first_goes : (old now : Search) (rs : List ClauseRef) (i : ℕ) → i < length rs → IsLettingGo old now (places_of rs) i → 1 ≤ times (get_or rs i (record { 0 = 0 })).0 (drop i (places_of rs))
+first_goes old now rs i lt h =
     let r : ℕ = (get_or rs i (record { 0 = 0 })).0 in
-    let P : List ℕ → Type 0 = λ ps. 1 ≤ times r ps in
-    let here : 1 ≤ times r (drop i (places_of rs)) = subst P (sym (drop_at rs i lt)) (some_first r (drop (i + 1) (places_of rs))) in
-    (may.live r here, may.idle r here)
+    subst (λ ps. 1 ≤ times (get_or rs i (record { 0 = 0 })).0 ps) (sym (drop_at rs i lt)) (some_first r (drop (i + 1) (places_of rs)))
 
--- one clause more is let go
-pub goes_on : (old now new : Search) (rs : List ClauseRef) (i : ℕ) → i < length rs → IsLettingGo old now (places_of rs) i → IsReady new → Loses (clauses_in now.arena) ((get_or rs i (record { 0 = 0 })).0 ∷ []) (clauses_in new.arena) → new.trail.entries ≡ now.trail.entries → new.lessons ≡ now.lessons → new.trail.vars ≡ now.trail.vars → IsLettingGo old new (places_of rs) (i + 1)
-goes_on old now new rs i lt h ready loses entries lessons vars = record {
-  ready = ready;
-  loses = (let P : List ℕ → Type 0 = λ ps. Loses (clauses_in old.arena) ps (clauses_in new.arena) in subst P (sym (take_at rs i lt)) (loses_more (clauses_in old.arena) (clauses_in now.arena) (clauses_in new.arena) (take i (places_of rs)) (get_or rs i (record { 0 = 0 })).0 h.loses loses));
-  may_go = (let Q : List ℕ → Type 0 = λ ps. MayAllGo now.trail (clauses_in now.arena) ps in others_may_go now.trail new.trail (clauses_in now.arena) (clauses_in new.arena) (get_or rs i (record { 0 = 0 })).0 (drop (i + 1) (places_of rs)) (subst Q (drop_at rs i lt) h.may_go) loses entries);
-  lessons = lessons ∙ h.lessons;
-  vars = vars ∙ h.vars;
+-- one clause more leaves the arena
+pub goes_on : (old now new : Search) (rs : List ClauseRef) (i : ℕ) → i < length rs → IsLettingGo old now (places_of rs) i → new ≡ record now { arena = new.arena } → clauses_in new.arena ≡ without (clauses_in now.arena) (get_or rs i (record { 0 = 0 })).0 → IsLettingGo old new (places_of rs) (i + 1)
+goes_on old now new rs i lt h same left = record {
+  same = same ∙ ap (λ (s : Search). record s { arena = new.arena }) h.same ∙ ap (λ (t : Seen). record old { arena = new.arena; trail = t }) (sym trail);
+  entries = ap (λ (t : Seen). t.entries) trail ∙ h.entries;
+  vars = ap (λ (t : Seen). t.vars) trail ∙ h.vars;
+  fits = over (λ (t : Seen) (ds : List Live). Fits t ds) law.0;
+  loses = (let P : List ℕ → Type 0 = λ ps. Loses (clauses_in old.arena) ps (clauses_in new.arena) in subst P (sym (take_at rs i lt)) (loses_more (clauses_in old.arena) (clauses_in now.arena) (clauses_in new.arena) (take i (places_of rs)) (get_or rs i (record { 0 = 0 })).0 h.loses (subst (λ (ds : List Live). Loses (clauses_in now.arena) ((get_or rs i (record { 0 = 0 })).0 ∷ []) ds) (sym left) (keeps_same (without (clauses_in now.arena) (get_or rs i (record { 0 = 0 })).0)))));
+  live = λ x k. ap (λ ds. is_live ds x) left ∙ without-live (clauses_in now.arena) r x (apart x k) ∙ h.live x (ahead x k);
+  idle = λ x k. h.idle x (ahead x k);
+  once = once_rest r (drop (i + 1) (places_of rs)) once_all;
+  off = λ x k. over (λ (t : Seen) (ds : List Live). attached_in t ds x ≡ false) (law.1 x ∙ h.off x (ahead x k));
+  placed = λ x live none. (let l : is_live (without (clauses_in now.arena) (get_or rs i (record { 0 = 0 })).0) x ≡ true = ap (λ ds. is_live ds x) (sym left) ∙ live in
+      over (λ (t : Seen) (ds : List Live). IsPlaced t ds x) (at x (other x l) (h.placed x (sym (without-live (clauses_in now.arena) r x (other x l)) ∙ l) (ap (times x) (drop_at rs i lt) ∙ times-other x r (drop (i + 1) (places_of rs)) (λ e. other x l (sym e)) ∙ none))));
+}
+  where
+    r : ℕ
+    r = (get_or rs i (record { 0 = 0 })).0
+
+    trail : new.trail ≡ now.trail
+    trail = ap (λ (s : Search). s.trail) same
+
+    over : (P : Seen → List Live → Type 0) → P now.trail (without (clauses_in now.arena) (get_or rs i (record { 0 = 0 })).0) → P new.trail (clauses_in new.arena)
+    over P p = subst (λ (t : Seen). P t (clauses_in new.arena)) (sym trail) (subst (λ (ds : List Live). P now.trail ds) (sym left) p)
+
+    some : 1 ≤ times (get_or rs i (record { 0 = 0 })).0 (drop i (places_of rs))
+    some = first_goes old now rs i lt h
+
+    once_all : (x : ℕ) → times x ((get_or rs i (record { 0 = 0 })).0 ∷ drop (i + 1) (places_of rs)) ≤ 1
+    once_all x = subst (λ ps. times x ps ≤ 1) (drop_at rs i lt) (h.once x)
+
+    apart : (x : ℕ) → 1 ≤ times x (drop (i + 1) (places_of rs)) → x ≡ (get_or rs i (record { 0 = 0 })).0 → ⊥
+    apart x k = once_apart r x (drop (i + 1) (places_of rs)) once_all k
+
+    ahead : (x : ℕ) → 1 ≤ times x (drop (i + 1) (places_of rs)) → 1 ≤ times x (drop i (places_of rs))
+    ahead x k = subst (λ ps. 1 ≤ times x ps) (sym (drop_at rs i lt)) (some_rest r x (drop (i + 1) (places_of rs)) k)
+
+    other : (x : ℕ) → is_live (without (clauses_in now.arena) (get_or rs i (record { 0 = 0 })).0) x ≡ true → x ≡ (get_or rs i (record { 0 = 0 })).0 → ⊥
+    other x l e = both_ways (is_live (without (clauses_in now.arena) r) x) (ap (is_live (without (clauses_in now.arena) r)) e ∙ without-gone (clauses_in now.arena) r) l
+
+    law : Fits now.trail (without (clauses_in now.arena) (get_or rs i (record { 0 = 0 })).0) × ((x : ℕ) → attached_in now.trail (without (clauses_in now.arena) (get_or rs i (record { 0 = 0 })).0) x ≡ attached_in now.trail (clauses_in now.arena) x)
+    law = fits_after_retire now.trail (clauses_in now.arena) r h.fits (h.off r some) (subst (λ (es : List Entry). IsNoReason es r) (sym h.entries) (none_leads old.trail.entries r (h.idle r some)))
+
+    at : (x : ℕ) → (x ≡ (get_or rs i (record { 0 = 0 })).0 → ⊥) → IsPlaced now.trail (clauses_in now.arena) x → IsPlaced now.trail (without (clauses_in now.arena) (get_or rs i (record { 0 = 0 })).0) x
+    at x n (inl a) = inl (law.1 x ∙ a)
+    at x n (inr fact) = inr (record { lit = fact.lit; alone = ap (λ (c : Live). c.lits) (without-other (clauses_in now.arena) r x n) ∙ fact.alone; true_at_0 = fact.true_at_0 })
+
+drop_whole : (rs : List ClauseRef) (i : ℕ) → length rs ≤ i → drop i (places_of rs) ≡ []
+drop_whole [] zero le = refl
+drop_whole [] (suc i) le = refl
+drop_whole (r ∷ rs) zero le = absurd (omega arith)
+drop_whole (r ∷ rs) (suc i) le = drop_whole rs i (omega arith)
+
+-- all of them are gone, and the search is ready as before
+pub gone_are_ready : (old now : Search) (rs : List ClauseRef) (i : ℕ) → length rs ≤ i → IsReady old → IsLettingGo old now (places_of rs) i → IsReady now
+gone_are_ready old now rs i le ready h = record {
+  fits = h.fits;
+  placed = λ x live. h.placed x live (ap (times x) (drop_whole rs i le));
+  ordered = ordered_on old now.trail ready.ordered h.vars (λ v k. ap (λ es. is_assigned es v) h.entries ∙ k) now h.same;
 }
 
 pub all_gone : (old now : Search) (rs : List ClauseRef) (i : ℕ) → length rs ≤ i → IsLettingGo old now (places_of rs) i → Loses (clauses_in old.arena) (places_of rs) (clauses_in now.arena)

@@ -5,6 +5,7 @@ use Rattle.clause_arena.specs.declared.ClauseRef.{ClauseRef}
 use Rattle.clause_arena.specs.Clauses.{Live, is_live, id_of, lits_of, places, without}
 use Rattle.watch_lists.specs.declared.trail.Entry.{Entry}
 use Rattle.watch_lists.specs.Rows.{times}
+use Rattle.watch_lists.specs.Leaving.{is_marked}
 use Rattle.watch_lists.specs.Trails.{Seen}
 use Rattle.watch_lists.specs.Fits.{KeepsClauses}
 use Rattle.sat_core.specs.declared.worth.Idle.{Idle}
@@ -73,6 +74,10 @@ pub record AreChosen (formula : ℕ) (t : Seen) (cs : List Live) (gone : List Cl
   pub lessons : (r : ℕ) → 1 ≤ times r (places_of gone) → is_lesson formula cs r ≡ true
   pub at_most_half : 2 * length gone ≤ lessons_in formula cs
   pub enough : min (lessons_in formula cs / 2) (lessons_in formula cs - short_lessons_in formula cs - t.vars) ≤ length gone
+
+-- exactly these places are marked
+abbrev pub AreMarked : List Bool → List ℕ → Type 0
+AreMarked marks ps = (x : ℕ) → is_marked marks x ≡ nat_lt 0 (times x ps)
 
 -- the clauses without those at some places, but for links and the order of literals
 abbrev pub Loses : List Live → List ℕ → List Live → Type 0

@@ -4,7 +4,7 @@
 //! a lesson of two or fewer literals. One line of the log removes them. Then they are taken out of the lists of
 //! watches, and the arena is packed.
 
-ghost use Rattle.std.specs.Prelude.{◌≡◌, ◌+◌, ◌^◌, ◌<◌, ◌≤◌, ℕ, List, None, Option, OnOk, IfOk, [], ◌∷◌, false, true, length, map};
+ghost use Rattle.std.specs.Prelude.{◌≡◌, ◌+◌, ◌^◌, ◌<◌, ◌≤◌, ℕ, List, None, Option, OnOk, IfOk, false, true, length, map};
 ghost use Rattle.cnf_base.specs.Logs.{LogStep};
 ghost use Rattle.clause_arena.specs.Clauses.{is_live};
 ghost use Rattle.clause_arena.specs.Packing.{moves_of, packed_by};
@@ -13,7 +13,7 @@ ghost use Rattle.watch_lists.specs.Rows.{times};
 ghost use Rattle.sat_core.specs.Outcomes.{HasSolveCause};
 ghost use Rattle.sat_core.specs.Standing.{HoldsLesson, HoldsReduced};
 ghost use Rattle.sat_core.specs.Ready.{IsReady};
-ghost use Rattle.sat_core.specs.Reducing.{Loses, MayAllGo, ids_in, is_idle, places_of};
+ghost use Rattle.sat_core.specs.Reducing.{AreMarked, Loses, MayAllGo, ids_in, places_of};
 
 use crate::SolveRefused;
 use crate::search::Search;
@@ -51,8 +51,9 @@ impl Search {
             return Ok(());
         }
         let ids = self.ids_of(alloc, &gone)?;
+        let marks = self.marks_of(alloc, &gone)?;
         log.remove(f.len() as u64 + self.lessons, &ids)?;
-        self.let_all_go(&gone);
+        self.let_all_go(&gone, &marks);
         self.pack(alloc)?;
         Ok(())
     }
@@ -69,33 +70,32 @@ impl Search {
         Ok(ids)
     }
 
-    // Lets go of clauses.
-    fn let_all_go(&mut self, gone: &[ClauseRef])
+    // A mark for each of these clauses.
+    fn marks_of(&self, alloc: Global, clauses: &[ClauseRef]) -> Result<Vec<bool>, AllocError>
+        requires { (r : ℕ) → 1 ≤ times r (places_of clauses.now) → is_live (clauses_in self.now.arena) r ≡ true }
+        ensures { IfOk result (λ marks. AreMarked marks.items (places_of clauses.now)) }
+    {
+        let mut marks = vec![in alloc; false; self.arena.bound() as usize]?;
+        for r in clauses {
+            marks[r.0 as usize] = true;
+        }
+        Ok(marks)
+    }
+
+    // Takes the clauses, which are marked, out of the lists of watches and out of the arena.
+    fn let_all_go(&mut self, gone: &[ClauseRef], marks: &[bool])
         requires ready { IsReady self.old }
         requires may_go { MayAllGo self.old.trail (clauses_in self.old.arena) (places_of gone.now) }
+        requires marked { AreMarked marks.now (places_of gone.now) }
         ensures ready { IsReady self.new }
         ensures loses { Loses (clauses_in self.old.arena) (places_of gone.now) (clauses_in self.new.arena) }
         ensures lessons { self.new.lessons ≡ self.old.lessons }
         ensures vars { self.new.trail.vars ≡ self.old.trail.vars }
     {
+        self.trail.detach_all(&mut self.arena, marks);
         for r in gone {
-            self.let_go(*r);
+            self.arena.retire(*r);
         }
-    }
-
-    // Takes a clause out of the lists of watches and out of the arena.
-    fn let_go(&mut self, r: ClauseRef)
-        requires ready { IsReady self.old }
-        requires live { is_live (clauses_in self.old.arena) r.0 ≡ true }
-        requires idle { is_idle self.old.trail (clauses_in self.old.arena) r.0 ≡ true }
-        ensures ready { IsReady self.new }
-        ensures loses { Loses (clauses_in self.old.arena) (r.0 ∷ []) (clauses_in self.new.arena) }
-        ensures entries { self.new.trail.entries ≡ self.old.trail.entries }
-        ensures lessons { self.new.lessons ≡ self.old.lessons }
-        ensures vars { self.new.trail.vars ≡ self.old.trail.vars }
-    {
-        self.trail.detach(&mut self.arena, r);
-        self.arena.retire(r);
     }
 
     // Puts the clauses together without gaps.

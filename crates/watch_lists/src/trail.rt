@@ -140,6 +140,13 @@ impl Trail {
         self.walked += 1;
     }
 
+    // How many literals there are: each variable has two.
+    pub(crate) fn lits(&self) -> u32
+        ensures { result ≡ 2 * self.now.vars }
+    {
+        2 * self.places.len() as u32
+    }
+
     // The first clause in the list of a literal.
     pub(crate) fn head(&self, lit: Lit) -> Option<ClauseRef>
         requires { variable lit < self.now.vars }

@@ -23,7 +23,7 @@ returns-then-is_empty-clause-holds g c = λ first h.
 
 pub remove-requires-clause-ids : goal.remove-requires-clause-ids
 remove-requires-clause-ids g c =
-    ap are_ids (c.deref-2.ensures.value ∙ c.in_ok-ids.ensures ∙ ap (λ (rs : List ClauseRef). ids_in (clauses_in c.args.self.now.arena) (places_of rs)) c.deref.ensures.value)
+    ap are_ids (c.deref-3.ensures.value ∙ c.in_ok-ids.ensures ∙ ap (λ (rs : List ClauseRef). ids_in (clauses_in c.args.self.now.arena) (places_of rs)) c.deref.ensures.value)
     ∙ ids_are c.args.f.now None (g.L.LogTake.steps c.args.log.now) (clauses_in c.args.self.now.arena) c.args.self.now.lessons c.in_ok-gone.gone.items c.requires.holds.log c.in_ok-gone.ensures.may_go.live
 
 pub returns-clause-holds : goal.returns-clause-holds
@@ -31,6 +31,6 @@ returns-clause-holds g c = λ first h.
     let P : ℕ → Type 0 = λ n. AreChosen n c.args.self.now.trail (clauses_in c.args.self.now.arena) c.in_ok-gone.gone.items in
     let Q : List ClauseRef → Type 0 = λ rs. Loses (clauses_in c.args.self.now.arena) (places_of rs) (clauses_in c.let_all_go.new.self.arena) in
     let R : ℕ → Type 0 = λ n. HoldsReduced c.args.f.now first (g.L.LogTake.steps c.remove.new.self) (clauses_in c.pack.new.self.arena) n in
-    subst R (sym (c.in_ok-pack.ensures.lessons ∙ c.let_all_go.ensures.lessons)) (reduced_holds c.args.f.now first (g.L.LogTake.steps c.args.log.now) (g.L.LogTake.steps c.remove.new.self) c.args.self.now.trail (clauses_in c.args.self.now.arena) (clauses_in c.let_all_go.new.self.arena) (clauses_in c.pack.new.self.arena) c.args.self.now.lessons c.in_ok-gone.gone.items c.deref-2.result.now h
-    (c.reduce_at.ensures.0 c.if-not-reduce_at.false) (subst P c.len.ensures.count c.in_ok-gone.ensures) c.requires.ready.fits c.requires.ready.placed c.requires.vars (falls_in c.args.self.now.arena) (falls_in c.let_all_go.new.self.arena) (subst Q c.deref-3.ensures.value c.let_all_go.ensures.loses) c.in_ok-pack.ensures.packed
-    (c.deref-2.ensures.value ∙ c.in_ok-ids.ensures ∙ ap (λ (rs : List ClauseRef). ids_in (clauses_in c.args.self.now.arena) (places_of rs)) c.deref.ensures.value) c.in_ok-remove.ensures.steps)
+    subst R (sym (c.in_ok-pack.ensures.lessons ∙ c.let_all_go.ensures.lessons)) (reduced_holds c.args.f.now first (g.L.LogTake.steps c.args.log.now) (g.L.LogTake.steps c.remove.new.self) c.args.self.now.trail (clauses_in c.args.self.now.arena) (clauses_in c.let_all_go.new.self.arena) (clauses_in c.pack.new.self.arena) c.args.self.now.lessons c.in_ok-gone.gone.items c.deref-3.result.now h
+    (c.reduce_at.ensures.0 c.if-not-reduce_at.false) (subst P c.len.ensures.count c.in_ok-gone.ensures) c.requires.ready.fits c.requires.ready.placed c.requires.vars (falls_in c.args.self.now.arena) (falls_in c.let_all_go.new.self.arena) (subst Q c.deref-4.ensures.value c.let_all_go.ensures.loses) c.in_ok-pack.ensures.packed
+    (c.deref-3.ensures.value ∙ c.in_ok-ids.ensures ∙ ap (λ (rs : List ClauseRef). ids_in (clauses_in c.args.self.now.arena) (places_of rs)) c.deref.ensures.value) c.in_ok-remove.ensures.steps)
