@@ -6,7 +6,7 @@ ghost use Rattle.watch_lists.specs.Fits.{Fits};
 
 use crate::{Scratch, close_hints, learn};
 use clause_arena::Arena;
-use cnf_base::Lit;
+use cnf_base::{Lit, Var};
 use std::alloc::AllocError;
 use std::test::Fail;
 use watch_lists::Trail;
@@ -51,6 +51,7 @@ fn four_clauses_teach_a_unit(rt: HostRuntime) -> Result<(), Fail> {
             assert_eq!(rt; lesson.back_level, 0);
             let hints = lesson.hints.ids();
             assert!(rt; hints == [1, 3].as_slice() || hints == [3, 1].as_slice());
+            assert_eq!(rt; scratch.met(), [Var(1), Var(0)].as_slice());
         }
         None => panic!(rt; "no conflict"),
     }

@@ -130,7 +130,7 @@ ordered_on s u o vars grown t same = record {
   may_be_decided = may;
   scores = ap (λ (x : Search). length x.heap.scores) same ∙ o.scores ∙ sym trail_vars;
   phases = ap (λ (x : Search). length x.phases.items) same ∙ o.phases ∙ sym trail_vars;
-  scratch = ap (λ (x : Search). x.scratch) same ∙ o.scratch ∙ sym trail_vars;
+  scratch = ap (λ (x : Search). x.scratch.vars) same ∙ o.scratch ∙ sym trail_vars;
 }
   where
     trail_vars : t.trail.vars ≡ s.trail.vars
