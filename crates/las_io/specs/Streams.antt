@@ -25,8 +25,9 @@ input_after_fault s = record s { faults = count_after s.faults 1 }
 abbrev pub output_after_fault : StreamSink → StreamSink
 output_after_fault s = record s { faults = count_after s.faults 1 }
 
--- a folder: the name of the file that is begun, how many bytes its fetches have given, and its faults
+-- a folder: its path, the name of the file that is begun, how many bytes its fetches have given, and its faults
 pub record FolderShelf : Type 0 where
+  pub folder : List ℕ
   pub begun : Option (List ℕ)
   pub given : ℕ
   pub faults : ℕ

@@ -1,5 +1,5 @@
 // The files of one folder, as a shelf that tells no contents.
-ghost use Rattle.std.specs.Prelude.{◌≡◌, ◌<◌, ◌≤◌, ⊤, length, is_some, IsSome, IsTrue, None, Some, IfOk, IfSome, MatchResult, unwrap_or, string_bytes};
+ghost use Rattle.std.specs.Prelude.{◌≡◌, ◌<◌, ◌≤◌, ◌++◌, ⊤, codes, length, is_some, IsSome, IsTrue, None, Some, IfOk, IfSome, MatchResult, unwrap_or, string_bytes};
 ghost use Rattle.las_io.specs.Counts.{HasFaultCause, Rose};
 ghost use Rattle.las_io.specs.Names.{is_lawful_name};
 ghost use Rattle.las_io.specs.Shelves.{FetchCounts, begun_after};
@@ -39,6 +39,7 @@ impl<R: Files + Drop> Model for DirShelf<R> {
     ghost Value = { FolderShelf };
 
     ghost view = { λ s. record {
+      folder = string_bytes s.folder;
       begun = option_map (λ b. string_bytes b.name) s.begun;
       given = s.given;
       faults = s.faults;
@@ -47,7 +48,7 @@ impl<R: Files + Drop> Model for DirShelf<R> {
 
 impl<R: Files + Drop> DirShelf<R> {
     pub fn new(alloc: Global, system: R, folder: &str) -> Result<DirShelf<R>, AllocError>
-        ensures { IfOk result (λ s. s ≡ record { begun = None; given = 0; faults = 0 }) }
+        ensures { IfOk result (λ s. s ≡ record { folder = folder.now; begun = None; given = 0; faults = 0 }) }
     {
         let folder = String::from_str(alloc, folder)?;
         Ok(DirShelf {
@@ -61,7 +62,9 @@ impl<R: Files + Drop> DirShelf<R> {
     }
 
     // Where the file of this name stands.
-    fn path_of(&self, name: &str) -> Result<String, AllocError> {
+    fn path_of(&self, name: &str) -> Result<String, AllocError>
+        ensures { IfOk result (λ path. string_bytes path ≡ self.now.folder ++ (codes "/" ++ name.now)) }
+    {
         let folder = self.folder.as_str();
         format!(in self.alloc; "{folder}/{name}")
     }
@@ -171,6 +174,8 @@ impl<R: Files + Drop> Shelf for DirShelf<R> {
         ensures begun { self.new.begun ≡ begun_after name.now result }
         ensures count { self.new.given ≡ self.old.given }
         ensures cause { HasFaultCause self.old.faults self.new.faults result }
+
+        ensures same { self.new.folder ≡ self.old.folder }
     {
         let Ok(path) = self.path_of(name) else {
             return Err(IoBad::Memory);
@@ -192,6 +197,8 @@ impl<R: Files + Drop> Shelf for DirShelf<R> {
         ensures begun { self.new.begun ≡ self.old.begun }
         ensures count { self.new.given ≡ self.old.given }
         ensures cause { HasFaultCause self.old.faults self.new.faults result }
+
+        ensures same { self.new.folder ≡ self.old.folder }
     {
         let Some(mut begun) = self.begun.take() else {
             return Ok(());
@@ -210,6 +217,8 @@ impl<R: Files + Drop> Shelf for DirShelf<R> {
         ensures begun { self.new.begun ≡ None }
         ensures count { self.new.given ≡ self.old.given }
         ensures cause { HasFaultCause self.old.faults self.new.faults result }
+
+        ensures same { self.new.folder ≡ self.old.folder }
     {
         self.begun = None;
         Ok(())
@@ -222,6 +231,8 @@ impl<R: Files + Drop> Shelf for DirShelf<R> {
         ensures begun { self.new.begun ≡ None }
         ensures count { FetchCounts self.old.given self.new.given result }
         ensures cause { HasFaultCause self.old.faults self.new.faults result }
+
+        ensures same { self.new.folder ≡ self.old.folder }
     {
         let Ok(path) = self.path_of(name) else {
             return Err(IoBad::Memory);
