@@ -1,7 +1,10 @@
 //! Which lessons a reduction takes. Long lessons are worth least, since they rarely imply anything, and among
-//! those of one length the newest.
+//! those of one length the newest. Lessons whose literals stood at two levels, or at one, when they were learned tie
+//! those levels together, and are worth most whatever their length (Audemard and Simon 2009): they go only where the
+//! others are fewer than are due.
 
-ghost use Rattle.std.specs.Prelude.{◌≡◌, ◌<◌, IfOk, map, true};
+ghost use Rattle.std.specs.Prelude.{◌≡◌, ◌<◌, IfOk, IsTrue, map, true};
+ghost use Rattle.cnf_base.specs.Literals.{are_below};
 ghost use Rattle.clause_arena.specs.Clauses.{is_live, places};
 ghost use Rattle.clause_arena.specs.Words.{clauses_in};
 ghost use Rattle.watch_lists.specs.Entries.{reason_of};
@@ -12,13 +15,15 @@ ghost use Rattle.sat_core.specs.Reducing.{AreChosen, AreIdle, clauses_of, is_idl
 
 use crate::search::Search;
 use clause_arena::ClauseRef;
-use cnf_base::Var;
+use cnf_base::{Lit, Var};
 use std::alloc::{AllocError, Global};
 use std::cmp::Reverse;
+use watch_lists::Trail;
 
-// A lesson that may go, with the number of its literals.
+// A lesson that may go: whether its literals stood at two levels or at one, and how many they are.
 #[derive(Clone, Copy)]
 pub struct Idle {
+    pub is_close: bool,
     pub size: usize,
     pub clause: ClauseRef,
 }
@@ -37,6 +42,7 @@ impl Search {
         let found = self.idle_lessons(alloc, formula, &refs)?;
         let mut idle = found.0;
         idle.sort_by_key(|lesson| Reverse(lesson.size))?;
+        idle.sort_by_key(|lesson| lesson.is_close)?;
         idle.truncate(found.1 / 2);
         clauses_of(alloc, &idle)
     }
@@ -55,15 +61,25 @@ impl Search {
         let mut idle = Vec::new(alloc);
         let mut lessons = 0;
         for r in refs {
-            if self.arena.id(*r) > formula {
+            let id = self.arena.id(*r);
+            if id > formula {
                 lessons += 1;
                 if self.is_idle(*r) {
-                    let size = self.arena.lits(*r).len();
-                    idle.push(Idle { size, clause: *r })?;
+                    idle.push(Idle {
+                        is_close: self.is_close(id - formula),
+                        size: self.arena.lits(*r).len(),
+                        clause: *r,
+                    })?;
                 }
             }
         }
         Ok((idle, lessons))
+    }
+
+    // Whether the literals of the lesson of a number, from 1 on, stood at two levels or at one.
+    fn is_close(&self, number: u64) -> bool {
+        let place = number.saturating_sub(1) as usize;
+        self.close.get(place).copied().unwrap_or(false)
     }
 
     // Whether a clause has three literals or more, and is no reason.
@@ -103,6 +119,38 @@ impl Search {
             None => false,
         }
     }
+}
+
+/// Notes, behind the lessons before, whether the literals of a lesson stand at two levels or at one. The levels stand in
+/// `levels` then.
+pub(crate) fn note_close(
+    trail: &Trail,
+    lits: &[Lit],
+    levels: &mut Vec<u32>,
+    close: &mut Vec<bool>,
+) -> Result<(), AllocError>
+    requires trail { IsTrail trail.now }
+    requires below { IsTrue (are_below trail.now.vars lits.now) }
+{
+    levels.clear();
+    for lit in lits {
+        levels.push(level_of(trail, lit.var()))?;
+    }
+    levels.sort_unstable();
+    levels.dedup();
+    close.push(levels.len() <= 2)?;
+    Ok(())
+}
+
+// The level of a variable, or 0 where it has no value.
+fn level_of(trail: &Trail, var: Var) -> u32
+    requires trail { IsTrail trail.now }
+    requires below { var.0 < trail.now.vars }
+{
+    if trail.value(var.plain()).is_none() {
+        return 0;
+    }
+    trail.level(var)
 }
 
 // The clauses of idle lessons.
