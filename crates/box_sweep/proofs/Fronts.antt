@@ -1,5 +1,5 @@
 -- Fronts of a text that a sink holds.
-use Rattle.std.proofs.Common.{ℕ, ◌+◌, List, [], ◌++◌, Option, Result, Ok, Err, OnErr, take, length, arith, sym, subst, length-append}
+use Rattle.std.proofs.Common.{◌≡◌, ℕ, ◌+◌, List, [], ◌++◌, Option, Result, Ok, Err, OnErr, take, length, arith, sym, subst, length-append}
 use Rattle.std.specs.Io.KnownBytes.{Appends}
 use Rattle.std.proofs.KnownBytes.{Appends-nil, Appends-trans}
 use Rattle.std.proofs.Math.Seq.{take-append-add, take-length}
@@ -27,3 +27,7 @@ front_behind a b c xs ys p f = (length xs + f.0, omega (arith, f.1, length-appen
 pub at_error : {T E : Type 0} (r : Result T E) (P : Type 0) → P → OnErr r P
 at_error (Ok x) P p = tt
 at_error (Err e) P p = p
+
+-- what went well was refused for no reason
+pub went_well : {T E : Type 0} (x : T) (e : E) → (let r : Result T E = Ok x in r ≡ Err e) → ⊥
+went_well x e is = cc

@@ -271,3 +271,7 @@ pub place_after : (torn both piece : List ℕ) (at filled start at_later filled_
 place_after torn both piece at filled start at_later filled_later taken later joined left within front sum place =
     let long : length both ≡ length torn + length (hand_in piece at filled) = ap length joined ∙ length-append torn (hand_in piece at filled) in
     omega (arith, long, length-drop at (take filled piece), length-take filled piece, left, within, front, sum, place)
+
+-- a piece that came is no fault
+pub came_well : (more : Bool) (bad : StepRefused) → (let r : Result Bool StepRefused = Ok more in r ≡ Err bad) → ⊥
+came_well more bad e = cc

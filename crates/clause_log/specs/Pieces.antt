@@ -71,9 +71,10 @@ pub record PieceComes (rest piece : List ℕ) (filled : ℕ) : Type 0 where
   pub within : filled ≤ length rest
   pub none : filled ≡ 0 → length rest ≡ 0
 
--- the count of faults does not fall, a fault comes only where it rose, and neither a bad line nor the limit is answered
+-- the count of faults does not fall; a fault comes only where it rose, and it rises only where a fault comes; neither a bad line nor the limit is answered
 pub record HasPieceCause {T : Type 0} (before now : ℕ) (result : Result T StepRefused) : Type 0 where
   pub later : before ≤ now
   pub failed : IsErrOf result refused.TheVariants.ShelfFault → Rose before now
+  pub rises : before < now → IsErrOf result refused.TheVariants.ShelfFault
   pub short : IsErrOf result refused.TheVariants.TooLong → ⊥
   pub well_formed : (line : ℕ) → IsErrOf result (refused.TheVariants.Malformed line) → ⊥

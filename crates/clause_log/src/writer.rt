@@ -7,6 +7,7 @@ ghost use Rattle.cnf_base.specs.Logs.{Add, Remove};
 ghost use Rattle.cnf_base.specs.Takes.{HasLogCause, Takes, are_ids, is_fault};
 ghost use Rattle.clause_log.specs.LogFiles.{OthersAreLeft, Writes, as_io, begun_file, is_broken, steps_told};
 ghost use Rattle.clause_log.specs.Growing.{BegunGoesOn};
+ghost use Rattle.clause_log.specs.Breaking.{BreaksByFault};
 ghost use Rattle.clause_log.specs.LogText.{step_text};
 
 use crate::lines::{addition_line, removal_line};
@@ -51,6 +52,7 @@ impl<'a, H: Shelf> LogWriter<'a, H> {
         ensures files { FilesStay (H.files self.entry.shelf.now) (H.files self.exit.0.now) }
         ensures ended { H.begun_name self.exit.0.now ≡ None }
         ensures cause { HasLogCause (H.faults self.entry.shelf.now) (H.faults self.exit.0.now) result }
+        ensures rises { H.faults self.entry.shelf.now < H.faults self.exit.0.now → IsErrOf result LogBad.Fault }
     {
         let LogWriter {
             shelf,
@@ -70,6 +72,7 @@ impl<'a, H: Shelf> LogWriter<'a, H> {
         ensures count { self.new.count ≡ (if is_ok result then self.old.count + 1 else self.old.count) }
         ensures broken { self.new.broken ≡ is_fault result }
         ensures cause { HasLogCause (H.faults self.old.shelf.now) (H.faults self.new.shelf.now) result }
+        ensures rises { H.faults self.old.shelf.now < H.faults self.new.shelf.now → IsErrOf result LogBad.Fault }
     {
         let Some(count) = self.count.checked_add(1) else {
             return Err(LogBad::Memory);
@@ -98,15 +101,17 @@ impl<H: Shelf> LogTake for LogWriter<'_, H> {
     ghost goes_on_from = { λ w v. (w.shelf.ghost_name ≡ v.shelf.ghost_name)
         × (H.begun_name w.shelf.now ≡ H.begun_name v.shelf.now)
         × OthersAreLeft (H.begun_name v.shelf.now) (H.files v.shelf.now) (H.files w.shelf.now)
-        × BegunGoesOn v.broken w.broken (H.begun_name v.shelf.now) (H.files v.shelf.now) (H.files w.shelf.now) };
+        × BegunGoesOn v.broken w.broken (H.begun_name v.shelf.now) (H.files v.shelf.now) (H.files w.shelf.now)
+        × BreaksByFault v.broken w.broken (H.faults v.shelf.now) (H.faults w.shelf.now) };
 
     ghost use Rattle.clause_log.specs.Leaving.{left_from_itself, left_through};
     ghost use Rattle.clause_log.specs.Growing.{begun_goes_on_itself, begun_goes_on_through};
+    ghost use Rattle.clause_log.specs.Breaking.{breaks_from_itself, breaks_through};
     ghost use Rattle.std.proofs.Common.{refl, ◌∙◌};
 
-    ghost goes_on_from_itself = { λ w. (refl, refl, left_from_itself (H.begun_name w.shelf.now) (H.files w.shelf.now), begun_goes_on_itself w.broken (H.begun_name w.shelf.now) (H.files w.shelf.now)) };
+    ghost goes_on_from_itself = { λ w. (refl, refl, left_from_itself (H.begun_name w.shelf.now) (H.files w.shelf.now), begun_goes_on_itself w.broken (H.begun_name w.shelf.now) (H.files w.shelf.now), breaks_from_itself w.broken (H.faults w.shelf.now)) };
 
-    ghost goes_on_through = { λ last mid first p q. (p.0 ∙ q.0, p.1 ∙ q.1, left_through (H.begun_name first.shelf.now) (H.begun_name mid.shelf.now) (H.files first.shelf.now) (H.files mid.shelf.now) (H.files last.shelf.now) q.1 q.2 p.2, begun_goes_on_through first.broken mid.broken last.broken (H.begun_name first.shelf.now) (H.begun_name mid.shelf.now) (H.files first.shelf.now) (H.files mid.shelf.now) (H.files last.shelf.now) q.1 q.3 p.3) };
+    ghost goes_on_through = { λ last mid first p q. (p.0 ∙ q.0, p.1 ∙ q.1, left_through (H.begun_name first.shelf.now) (H.begun_name mid.shelf.now) (H.files first.shelf.now) (H.files mid.shelf.now) (H.files last.shelf.now) q.1 q.2 p.2, begun_goes_on_through first.broken mid.broken last.broken (H.begun_name first.shelf.now) (H.begun_name mid.shelf.now) (H.files first.shelf.now) (H.files mid.shelf.now) (H.files last.shelf.now) q.1 q.3 p.3, breaks_through first.broken mid.broken last.broken (H.faults first.shelf.now) (H.faults mid.shelf.now) (H.faults last.shelf.now) q.4 p.4) };
 
     fn add(&mut self, id: u64, lits: &[Lit], hints: &[u64]) -> Result<(), LogBad>
         requires unbroken { is_broken self.old.broken (H.begun_name self.old.shelf.now) ≡ false }
@@ -120,7 +125,8 @@ impl<H: Shelf> LogTake for LogWriter<'_, H> {
         ensures goes_on { (self.new.shelf.ghost_name ≡ self.old.shelf.ghost_name)
             × (H.begun_name self.new.shelf.now ≡ H.begun_name self.old.shelf.now)
             × OthersAreLeft (H.begun_name self.old.shelf.now) (H.files self.old.shelf.now) (H.files self.new.shelf.now)
-            × BegunGoesOn self.old.broken self.new.broken (H.begun_name self.old.shelf.now) (H.files self.old.shelf.now) (H.files self.new.shelf.now) }
+            × BegunGoesOn self.old.broken self.new.broken (H.begun_name self.old.shelf.now) (H.files self.old.shelf.now) (H.files self.new.shelf.now)
+            × BreaksByFault self.old.broken self.new.broken (H.faults self.old.shelf.now) (H.faults self.new.shelf.now) }
     {
         let line = addition_line(self.alloc, id, lits, hints)?;
         self.put(&line)
@@ -136,7 +142,8 @@ impl<H: Shelf> LogTake for LogWriter<'_, H> {
         ensures goes_on { (self.new.shelf.ghost_name ≡ self.old.shelf.ghost_name)
             × (H.begun_name self.new.shelf.now ≡ H.begun_name self.old.shelf.now)
             × OthersAreLeft (H.begun_name self.old.shelf.now) (H.files self.old.shelf.now) (H.files self.new.shelf.now)
-            × BegunGoesOn self.old.broken self.new.broken (H.begun_name self.old.shelf.now) (H.files self.old.shelf.now) (H.files self.new.shelf.now) }
+            × BegunGoesOn self.old.broken self.new.broken (H.begun_name self.old.shelf.now) (H.files self.old.shelf.now) (H.files self.new.shelf.now)
+            × BreaksByFault self.old.broken self.new.broken (H.faults self.old.shelf.now) (H.faults self.new.shelf.now) }
     {
         let line = removal_line(self.alloc, after, ids)?;
         self.put(&line)
@@ -152,6 +159,7 @@ pub fn begin_log<H: Shelf>(shelf: &mut H, name: &str) -> Result<(), LogBad>
     ensures begun { H.begun_name shelf.new ≡ begun_after name.now result }
     ensures count { H.given shelf.new ≡ H.given shelf.old }
     ensures cause { HasLogCause (H.faults shelf.old) (H.faults shelf.new) result }
+    ensures rises { H.faults shelf.old < H.faults shelf.new → IsErrOf result LogBad.Fault }
 {
     match shelf.begin(name) {
         Ok(()) => Ok(()),
@@ -166,6 +174,7 @@ fn finish_log<H: Shelf>(shelf: &mut H) -> Result<(), LogBad>
     ensures files { FilesStay (H.files shelf.old) (H.files shelf.new) }
     ensures ended { H.begun_name shelf.new ≡ None }
     ensures cause { HasLogCause (H.faults shelf.old) (H.faults shelf.new) result }
+    ensures rises { H.faults shelf.old < H.faults shelf.new → IsErrOf result LogBad.Fault }
 {
     match shelf.finish() {
         Ok(()) => Ok(()),

@@ -54,6 +54,7 @@ pub fn read_all<S: Source>(alloc: Global, src: &mut S, limit: usize) -> Result<V
     // At every answer.
     ensures most { GivesUpTo S.left S.given src.old src.new (limit + 1) }
     ensures faults { S.faults src.old ≤ S.faults src.new }
+    ensures rises { S.faults src.old < S.faults src.new → IsErrOf result ReadRefused.ReadFault }
 {
     let mut all: Vec<u8> = Vec::new(alloc);
     let mut piece = vec![in alloc; 0u8; PIECE]?;
@@ -81,6 +82,7 @@ pub fn write_all<K: Sink>(sink: &mut K, bytes: &[u8]) -> Result<(), WriteRefused
     // At every answer.
     ensures front { AppendsFront (K.held sink.old) (K.held sink.new) bytes.now }
     ensures faults { K.faults sink.old ≤ K.faults sink.new }
+    ensures rises { K.faults sink.old < K.faults sink.new → IsErrOf result WriteRefused.WriteFault }
 {
     let mut done = 0;
     while done < bytes.len() {

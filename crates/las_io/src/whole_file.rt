@@ -66,6 +66,7 @@ pub fn fetch_all<H: Shelf>(
     ensures files { FilesStay (H.files shelf.old) (H.files shelf.new) }
     ensures begun { H.begun_name shelf.new ≡ None }
     ensures faults { H.faults shelf.old ≤ H.faults shelf.new }
+    ensures rises { H.faults shelf.old < H.faults shelf.new → IsErrOf result FetchRefused.ShelfFault }
 {
     let mut all: Vec<u8> = Vec::new(alloc);
     let mut piece = vec![in alloc; 0u8; PIECE]?;
@@ -95,6 +96,7 @@ fn fetch_pieces<H: Shelf>(
     ensures shelf_fault { IsErrOf result FetchRefused.ShelfFault
         → Rose (H.faults shelf.old) (H.faults shelf.new) }
     ensures faults { H.faults shelf.old ≤ H.faults shelf.new }
+    ensures rises { H.faults shelf.old < H.faults shelf.new → IsErrOf result FetchRefused.ShelfFault }
 {
     while all.len() <= limit {
         let room = (limit + 1 - all.len()).min(piece.len());

@@ -4,3 +4,4 @@ pub mod SolutionLemmas
 pub mod ZxLemmas
 pub mod FlowLemmas
 pub mod VerifyLemmas
+pub mod FaultLemmas

@@ -13,3 +13,4 @@ pub mod Commands
 pub mod Sweep
 pub mod Answered
 pub mod Partial
+pub mod Faults

@@ -1,5 +1,5 @@
 // The command `audit`: whether a document solves one of the listed boxes.
-ghost use Rattle.std.specs.Prelude.{◌≡◌, ◌↔◌, None, true, IfOk, IsOkAnd, IsErrOf, IsTrue};
+ghost use Rattle.std.specs.Prelude.{◌≡◌, ◌↔◌, ◌<◌, None, true, IfOk, IsOkAnd, IsErrOf, IsTrue};
 ghost use Rattle.las_io.specs.Counts.{Rose};
 ghost use Rattle.las_io.specs.Names.{is_lawful_name};
 ghost use Rattle.las_io.specs.Shelves.{FilesStay};
@@ -89,6 +89,7 @@ fn audit_file<H: Shelf>(
     requires none_begun { H.begun_name shelf.old ≡ None }
     ensures found { IfOk result (λ f. AnswersFile H.Shelf spec.now name.now shelf.old shelf.new (answer_by f)) }
     ensures shelf_fault { IsErrOf result FindRefused.ShelfFault → Rose (H.faults shelf.old) (H.faults shelf.new) }
+    ensures rises { H.faults shelf.old < H.faults shelf.new → IsErrOf result FindRefused.ShelfFault }
     ensures no_read_fault { IsErrOf result FindRefused.ReadFault → ⊥ }
     ensures files { FilesStay (H.files shelf.old) (H.files shelf.new) }
     ensures begun { H.begun_name shelf.new ≡ None }
@@ -113,6 +114,7 @@ pub(crate) fn audit<H: Shelf>(
     requires none_begun { H.begun_name shelf.old ≡ None }
     ensures found { IfOk result (λ f. AnswersSpec H.Shelf name.now (spec_of bytes.now) shelf.old shelf.new (answer_by f)) }
     ensures shelf_fault { IsErrOf result FindRefused.ShelfFault → Rose (H.faults shelf.old) (H.faults shelf.new) }
+    ensures rises { H.faults shelf.old < H.faults shelf.new → IsErrOf result FindRefused.ShelfFault }
     ensures asked { IsErrOf result FindRefused.ShelfFault → IsOkAnd (spec_of bytes.now) (λ b. is_any b ≡ true) }
     ensures no_read_fault { IsErrOf result FindRefused.ReadFault → ⊥ }
     ensures files { FilesStay (H.files shelf.old) (H.files shelf.new) }

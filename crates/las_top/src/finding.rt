@@ -1,5 +1,5 @@
 // What is found, and how it is told.
-ghost use Rattle.std.specs.Prelude.{◌≡◌, ◌≢◌, ◌⊎◌, ◌≤◌, ◌++◌, codes, IfOk, string_bytes};
+ghost use Rattle.std.specs.Prelude.{◌≡◌, ◌≢◌, ◌⊎◌, ◌<◌, ◌≤◌, ◌++◌, codes, IfOk, string_bytes};
 ghost use Rattle.std.specs.Io.KnownBytes.{Appends};
 ghost use Rattle.las_io.specs.Counts.{Rose};
 ghost use Rattle.las_io.specs.Moves.{AppendsFront};
@@ -114,6 +114,7 @@ fn say<K: Sink>(sink: &mut K, text: &[u8], status: Status) -> Status
     ensures told { IsAnswer result → (result ≡ status) × Appends (K.held sink.old) (K.held sink.new) text.now }
     ensures front { AppendsFront (K.held sink.old) (K.held sink.new) text.now }
     ensures write_fault { result ≡ Status.WriteFault → Rose (K.faults sink.old) (K.faults sink.new) }
+    ensures rises { K.faults sink.old < K.faults sink.new → result ≡ Status.WriteFault }
     ensures no_read_fault { result ≢ Status.ReadFault }
     ensures no_shelf_fault { result ≢ Status.ShelfFault }
     ensures faults { K.faults sink.old ≤ K.faults sink.new }
@@ -130,6 +131,7 @@ fn say_refused<E: Sink>(alloc: Global, refusal: Refusal, err: &mut E) -> Status
     ensures told { IsAnswer result → (result ≡ Status.Refused) × Appends (E.held err.old) (E.held err.new) (refused_line (reason_by refusal)) }
     ensures front { AppendsFront (E.held err.old) (E.held err.new) (refused_line (reason_by refusal)) }
     ensures write_fault { result ≡ Status.WriteFault → Rose (E.faults err.old) (E.faults err.new) }
+    ensures rises { E.faults err.old < E.faults err.new → result ≡ Status.WriteFault }
     ensures no_read_fault { result ≢ Status.ReadFault }
     ensures no_shelf_fault { result ≢ Status.ShelfFault }
 {
@@ -159,6 +161,9 @@ pub(crate) fn tell<K: Sink, E: Sink>(
     ensures said { IsAnswer result → Says (answer_by finding) result (sinks (K.held out.old) (E.held err.old)) (sinks (K.held out.new) (E.held err.new)) }
     ensures front { SaysFront (answer_by finding) (sinks (K.held out.old) (E.held err.old)) (sinks (K.held out.new) (E.held err.new)) }
     ensures write_fault { result ≡ Status.WriteFault → Rose (K.faults out.old) (K.faults out.new) ⊎ Rose (E.faults err.old) (E.faults err.new) }
+    ensures out_told { K.faults out.old < K.faults out.new → result ≡ Status.WriteFault }
+    ensures err_told { E.faults err.old < E.faults err.new → result ≡ Status.WriteFault }
+    ensures one_sink { K.faults out.old < K.faults out.new → E.faults err.old < E.faults err.new → ⊥ }
     ensures no_read_fault { result ≢ Status.ReadFault }
     ensures no_shelf_fault { result ≢ Status.ShelfFault }
 {

@@ -1,10 +1,11 @@
 // The top call: words, then the source, then the command, then what it says.
-ghost use Rattle.std.specs.Prelude.{◌≡◌, ◌⊎◌, None, Some, false, true, IfOk, IsOkAnd, IsErrOf};
+ghost use Rattle.std.specs.Prelude.{◌≡◌, ◌⊎◌, ◌<◌, None, Some, false, true, IfOk, IsOkAnd, IsErrOf};
 ghost use Rattle.las_io.specs.Counts.{Rose};
 ghost use Rattle.las_io.specs.Shelves.{FilesStay};
 ghost use Rattle.spec_codec.specs.Readings.{spec_of};
 ghost use Rattle.las_top.specs.Answers.{EndsLogs, IsAnswer, number_of};
 ghost use Rattle.las_top.specs.Commands.{IsInBounds, IsLawful, command_as};
+ghost use Rattle.las_top.specs.Faults.{AreTold, IsNoFault, NoneRose, faults_of};
 ghost use Rattle.las_top.specs.Findings.{answer_by};
 ghost use Rattle.las_top.specs.Moments.{moment};
 ghost use Rattle.las_top.specs.Answered.{AnswersInput, AnswersTo, AsksNoShelf, HasAnswered, IsSentToShelf, ReadsNothing, SendsToShelf, WritesNoLogs, asks_shelf, reads_source, texts_of, writes_logs};
@@ -91,6 +92,7 @@ fn answer<H: Shelf>(
     requires lawful { IsLawful (command_as command) }
     ensures found { IfOk result (λ f. AnswersAsked H.Shelf (command_as command.entry) shelf.old shelf.new bytes.now (answer_by f)) }
     ensures shelf_fault { IsErrOf result FindRefused.ShelfFault → Rose (H.faults shelf.old) (H.faults shelf.new) }
+    ensures rises { H.faults shelf.old < H.faults shelf.new → IsErrOf result FindRefused.ShelfFault }
     ensures asked { IsErrOf result FindRefused.ShelfFault → IsOkAnd (spec_of bytes.now) (λ b. sends (command_as command.entry) b ≡ true) }
     ensures unasked { asks_file (command_as command.entry) ≡ false → (shelf.new ≡ shelf.old) × (IsErrOf result FindRefused.ShelfFault → ⊥) }
     ensures no_read_fault { IsErrOf result FindRefused.ReadFault → ⊥ }
@@ -118,6 +120,8 @@ fn find<S: Source, H: Shelf>(
     ensures found { IfOk result (λ f. AnswersCommand S.Source H.Shelf (command_as command.entry) src.old src.new shelf.old shelf.new (answer_by f)) }
     ensures read_fault { IsErrOf result FindRefused.ReadFault → Rose (S.faults src.old) (S.faults src.new) × (shelf.new ≡ shelf.old) }
     ensures shelf_fault { IsErrOf result FindRefused.ShelfFault → Rose (H.faults shelf.old) (H.faults shelf.new) }
+    ensures source_told { S.faults src.old < S.faults src.new → IsErrOf result FindRefused.ReadFault }
+    ensures shelf_told { H.faults shelf.old < H.faults shelf.new → IsErrOf result FindRefused.ShelfFault }
     ensures asked { IsErrOf result FindRefused.ShelfFault → GivesSpec S.Source (sends (command_as command.entry)) src.old src.new }
     ensures unasked { asks_file (command_as command.entry) ≡ false → (shelf.new ≡ shelf.old) × (IsErrOf result FindRefused.ShelfFault → ⊥) }
     ensures files { FilesStay (H.files shelf.old) (H.files shelf.new) }
@@ -160,6 +164,11 @@ fn find_and_tell<S: Source, K: Sink, E: Sink, H: Shelf>(
     ensures unasked { asks_file (command_as command.entry) ≡ false → (shelf.new ≡ shelf.old) × (result ≡ Status.ShelfFault → ⊥) }
     ensures before_fault { (result ≡ Status.ReadFault) ⊎ (result ≡ Status.ShelfFault) → (out.new ≡ out.old) × (err.new ≡ err.old) }
     ensures write_fault { result ≡ Status.WriteFault → Rose (K.faults out.old) (K.faults out.new) ⊎ Rose (E.faults err.old) (E.faults err.new) }
+    ensures source_told { S.faults src.old < S.faults src.new → result ≡ Status.ReadFault }
+    ensures out_told { K.faults out.old < K.faults out.new → result ≡ Status.WriteFault }
+    ensures err_told { E.faults err.old < E.faults err.new → result ≡ Status.WriteFault }
+    ensures one_sink { K.faults out.old < K.faults out.new → E.faults err.old < E.faults err.new → ⊥ }
+    ensures shelf_told { H.faults shelf.old < H.faults shelf.new → result ≡ Status.ShelfFault }
 {
     match find(alloc, command, src, shelf) {
         Ok(finding) => tell(alloc, finding, out, err),
@@ -202,6 +211,11 @@ fn obey<S: Source, K: Sink, E: Sink, H: Shelf>(
     ensures sent { result ≡ Status.ShelfFault → SendsToShelf S.Source command src.old src.new }
     ensures before_shelf_fault { result ≡ Status.ShelfFault → writes_logs command ≡ false → (out.new ≡ out.old) × (err.new ≡ err.old) }
     ensures write_fault { result ≡ Status.WriteFault → Rose (K.faults out.old) (K.faults out.new) ⊎ Rose (E.faults err.old) (E.faults err.new) }
+    ensures source_told { S.faults src.old < S.faults src.new → result ≡ Status.ReadFault }
+    ensures out_told { K.faults out.old < K.faults out.new → result ≡ Status.WriteFault }
+    ensures err_told { E.faults err.old < E.faults err.new → result ≡ Status.WriteFault }
+    ensures one_sink { K.faults out.old < K.faults out.new → E.faults err.old < E.faults err.new → ⊥ }
+    ensures shelf_told { H.faults shelf.old < H.faults shelf.new → result ≡ Status.ShelfFault }
 {
     match command {
         Command::Sweep { budget } => sweep_source(alloc, budget, src, out, err, shelf),
@@ -263,6 +277,15 @@ pub fn run_las<S: Source, K: Sink, E: Sink, H: Shelf>(
     ensures before_shelf_fault { result ≡ Status.ShelfFault → WritesNoLogs (texts_of words.now) → (out.new ≡ out.old) × (err.new ≡ err.old) }
     ensures write_fault { result ≡ Status.WriteFault
         → Rose (K.faults out.old) (K.faults out.new) ⊎ Rose (E.faults err.old) (E.faults err.new) }
+
+    // A count of faults that rose is told by the status of its object, and one rises at most. So an answer, and want of
+    // memory, come only where none rose.
+    ensures told { let before = faults_of (S.faults src.old) (K.faults out.old) (E.faults err.old) (H.faults shelf.old) in
+        let after = faults_of (S.faults src.new) (K.faults out.new) (E.faults err.new) (H.faults shelf.new) in
+        AreTold before after result }
+    ensures no_fault { let before = faults_of (S.faults src.old) (K.faults out.old) (E.faults err.old) (H.faults shelf.old) in
+        let after = faults_of (S.faults src.new) (K.faults out.new) (E.faults err.new) (H.faults shelf.new) in
+        IsNoFault result → NoneRose before after }
 {
     match read_words(alloc, words) {
         Ok(command) => obey(alloc, command, src, out, err, shelf),

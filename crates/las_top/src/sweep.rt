@@ -1,5 +1,5 @@
 // The commands `sweep` and `bench`: the boxes of a specification by volume, up to the first that a diagram fits.
-ghost use Rattle.std.specs.Prelude.{◌≡◌, ◌⊎◌, ◌≢◌, ◌≤◌, None, true, IsOkAnd};
+ghost use Rattle.std.specs.Prelude.{◌≡◌, ◌⊎◌, ◌≢◌, ◌<◌, ◌≤◌, None, true, IsOkAnd};
 ghost use Rattle.las_base.specs.declared.Axis.TheVariants.{J};
 ghost use Rattle.las_io.specs.Counts.{Rose};
 ghost use Rattle.las_io.specs.Shelves.{FilesStay};
@@ -56,6 +56,10 @@ fn sweep_spec<K: Sink, E: Sink, H: Shelf>(
     ensures no_read_fault { result ≢ Status.ReadFault }
     ensures shelf_fault { result ≡ Status.ShelfFault → Rose (H.faults shelf.old) (H.faults shelf.new) }
     ensures write_fault { result ≡ Status.WriteFault → Rose (K.faults out.old) (K.faults out.new) ⊎ Rose (E.faults err.old) (E.faults err.new) }
+    ensures out_told { K.faults out.old < K.faults out.new → result ≡ Status.WriteFault }
+    ensures err_told { E.faults err.old < E.faults err.new → result ≡ Status.WriteFault }
+    ensures one_sink { K.faults out.old < K.faults out.new → E.faults err.old < E.faults err.new → ⊥ }
+    ensures shelf_told { H.faults shelf.old < H.faults shelf.new → result ≡ Status.ShelfFault }
 {
     let _ = spec.size();
     match sweep(alloc, spec, budget, out, err, shelf) {
@@ -87,6 +91,10 @@ fn sweep_bytes<K: Sink, E: Sink, H: Shelf>(
     ensures shelf_fault { result ≡ Status.ShelfFault → Rose (H.faults shelf.old) (H.faults shelf.new) }
     ensures asked { result ≡ Status.ShelfFault → IsOkAnd (spec_of bytes.now) (λ b. is_any b ≡ true) }
     ensures write_fault { result ≡ Status.WriteFault → Rose (K.faults out.old) (K.faults out.new) ⊎ Rose (E.faults err.old) (E.faults err.new) }
+    ensures out_told { K.faults out.old < K.faults out.new → result ≡ Status.WriteFault }
+    ensures err_told { E.faults err.old < E.faults err.new → result ≡ Status.WriteFault }
+    ensures one_sink { K.faults out.old < K.faults out.new → E.faults err.old < E.faults err.new → ⊥ }
+    ensures shelf_told { H.faults shelf.old < H.faults shelf.new → result ≡ Status.ShelfFault }
 {
     match read_spec(alloc, bytes) {
         Ok(spec) => sweep_spec(alloc, &spec, budget, out, err, shelf),
@@ -131,6 +139,11 @@ pub(crate) fn sweep_source<S: Source, K: Sink, E: Sink, H: Shelf>(
     ensures shelf_fault { result ≡ Status.ShelfFault → Rose (H.faults shelf.old) (H.faults shelf.new) }
     ensures asked { result ≡ Status.ShelfFault → GivesSpec S.Source is_any src.old src.new }
     ensures write_fault { result ≡ Status.WriteFault → Rose (K.faults out.old) (K.faults out.new) ⊎ Rose (E.faults err.old) (E.faults err.new) }
+    ensures source_told { S.faults src.old < S.faults src.new → result ≡ Status.ReadFault }
+    ensures out_told { K.faults out.old < K.faults out.new → result ≡ Status.WriteFault }
+    ensures err_told { E.faults err.old < E.faults err.new → result ≡ Status.WriteFault }
+    ensures one_sink { K.faults out.old < K.faults out.new → E.faults err.old < E.faults err.new → ⊥ }
+    ensures shelf_told { H.faults shelf.old < H.faults shelf.new → result ≡ Status.ShelfFault }
 {
     match read_all(alloc, src, MOST_BYTES) {
         Ok(bytes) => sweep_bytes(alloc, &bytes, budget, out, err, shelf),
@@ -160,6 +173,10 @@ pub(crate) fn bench<K: Sink, E: Sink, H: Shelf>(
     ensures no_read_fault { result ≢ Status.ReadFault }
     ensures shelf_fault { result ≡ Status.ShelfFault → Rose (H.faults shelf.old) (H.faults shelf.new) }
     ensures write_fault { result ≡ Status.WriteFault → Rose (K.faults out.old) (K.faults out.new) ⊎ Rose (E.faults err.old) (E.faults err.new) }
+    ensures out_told { K.faults out.old < K.faults out.new → result ≡ Status.WriteFault }
+    ensures err_told { E.faults err.old < E.faults err.new → result ≡ Status.WriteFault }
+    ensures one_sink { K.faults out.old < K.faults out.new → E.faults err.old < E.faults err.new → ⊥ }
+    ensures shelf_told { H.faults shelf.old < H.faults shelf.new → result ≡ Status.ShelfFault }
 {
     match ghz_spec(alloc, n, Axis::J) {
         Ok(spec) => sweep_spec(alloc, &spec, BENCH_BUDGET, out, err, shelf),

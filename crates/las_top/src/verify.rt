@@ -1,5 +1,5 @@
 // The command `verify`: whether the log of a listed box refutes the box's clauses.
-ghost use Rattle.std.specs.Prelude.{◌≡◌, None, Some, false, true, IfOk, IsOkAnd, IsErrOf, IsTrue, MatchOption, slice_get};
+ghost use Rattle.std.specs.Prelude.{◌≡◌, ◌<◌, None, Some, false, true, IfOk, IsOkAnd, IsErrOf, IsTrue, MatchOption, slice_get};
 ghost use Rattle.las_io.specs.Counts.{Rose};
 ghost use Rattle.las_io.specs.Names.{is_lawful_name};
 ghost use Rattle.las_io.specs.Shelves.{FilesStay};
@@ -27,6 +27,7 @@ fn judge<T: Steps>(alloc: Global, formula: &Formula, steps: &mut T) -> Result<Fi
     requires { T.failed steps.old ≡ false }
     ensures found { IfOk result (λ f. AnswersSteps formula.now (T.ahead steps.old) (answer_by f)) }
     ensures shelf_fault { IsErrOf result FindRefused.ShelfFault → Rose (T.faults steps.old) (T.faults steps.new) }
+    ensures rises { T.faults steps.old < T.faults steps.new → IsErrOf result FindRefused.ShelfFault }
     ensures no_read_fault { IsErrOf result FindRefused.ReadFault → ⊥ }
     ensures goes_on { T.goes_on_from steps.new steps.old }
 {
@@ -49,6 +50,7 @@ fn judge_log<H: Shelf>(
     requires none_begun { H.begun_name shelf.old ≡ None }
     ensures found { IfOk result (λ f. AnswersSteps formula.now (log_told log (H.files shelf.old)) (answer_by f)) }
     ensures shelf_fault { IsErrOf result FindRefused.ShelfFault → Rose (H.faults shelf.old) (H.faults shelf.new) }
+    ensures rises { H.faults shelf.old < H.faults shelf.new → IsErrOf result FindRefused.ShelfFault }
     ensures no_read_fault { IsErrOf result FindRefused.ReadFault → ⊥ }
     ensures files { FilesStay (H.files shelf.old) (H.files shelf.new) }
     ensures begun { H.begun_name shelf.new ≡ None }
@@ -70,6 +72,7 @@ fn judge_file<H: Shelf>(
     requires none_begun { H.begun_name shelf.old ≡ None }
     ensures found { IfOk result (λ f. AnswersLogFile H.Shelf (IsRefuted formula.now.clauses) formula.now name.now shelf.old (answer_by f)) }
     ensures shelf_fault { IsErrOf result FindRefused.ShelfFault → Rose (H.faults shelf.old) (H.faults shelf.new) }
+    ensures rises { H.faults shelf.old < H.faults shelf.new → IsErrOf result FindRefused.ShelfFault }
     ensures no_read_fault { IsErrOf result FindRefused.ReadFault → ⊥ }
     ensures files { FilesStay (H.files shelf.old) (H.files shelf.new) }
     ensures begun { H.begun_name shelf.new ≡ None }
@@ -88,6 +91,7 @@ fn judge_job<H: Shelf>(alloc: Global, job: &Job, shelf: &mut H) -> Result<Findin
     requires none_begun { H.begun_name shelf.old ≡ None }
     ensures found { IfOk result (λ f. AnswersBoxLog H.Shelf job.now shelf.old (answer_by f)) }
     ensures shelf_fault { IsErrOf result FindRefused.ShelfFault → Rose (H.faults shelf.old) (H.faults shelf.new) }
+    ensures rises { H.faults shelf.old < H.faults shelf.new → IsErrOf result FindRefused.ShelfFault }
     ensures no_read_fault { IsErrOf result FindRefused.ReadFault → ⊥ }
     ensures files { FilesStay (H.files shelf.old) (H.files shelf.new) }
     ensures begun { H.begun_name shelf.new ≡ None }
@@ -125,6 +129,7 @@ fn verify_spec<H: Shelf>(
     requires none_begun { H.begun_name shelf.old ≡ None }
     ensures found { IfOk result (λ f. AnswersListed H.Shelf (lists_box size spec.now) (job_of spec.now size) shelf.old shelf.new (answer_by f)) }
     ensures shelf_fault { IsErrOf result FindRefused.ShelfFault → Rose (H.faults shelf.old) (H.faults shelf.new) }
+    ensures rises { H.faults shelf.old < H.faults shelf.new → IsErrOf result FindRefused.ShelfFault }
     ensures asked { IsErrOf result FindRefused.ShelfFault → lists_box size spec.now ≡ true }
     ensures no_read_fault { IsErrOf result FindRefused.ReadFault → ⊥ }
     ensures files { FilesStay (H.files shelf.old) (H.files shelf.new) }
@@ -148,6 +153,7 @@ pub(crate) fn verify<H: Shelf>(
     // The log is accepted exactly where its steps refute the clauses of the listed box. Then no diagram solves the box's job.
     ensures found { IfOk result (λ f. AnswersVerify H.Shelf size (spec_of bytes.now) shelf.old shelf.new (answer_by f)) }
     ensures shelf_fault { IsErrOf result FindRefused.ShelfFault → Rose (H.faults shelf.old) (H.faults shelf.new) }
+    ensures rises { H.faults shelf.old < H.faults shelf.new → IsErrOf result FindRefused.ShelfFault }
     ensures asked { IsErrOf result FindRefused.ShelfFault → IsOkAnd (spec_of bytes.now) (λ b. lists_box size b ≡ true) }
     ensures no_read_fault { IsErrOf result FindRefused.ReadFault → ⊥ }
     ensures files { FilesStay (H.files shelf.old) (H.files shelf.new) }

@@ -5,6 +5,7 @@ use Rattle.cnf_base.specs.Literals.{Cnf, IsRefuted}
 use Rattle.cnf_base.specs.Logs.{LogState, LogStep, Tail, LogEnd, Malformed, Limit, first_fault, log_fault, tail_fault, at_fault, step_fault, after_step, adds_empty_clause, state_at_start}
 use Rattle.cnf_base.proofs.Refute.{logs_refute}
 use Rattle.clause_log.specs.declared.steps.Step.{Step}
+use Rattle.clause_log.specs.declared.steps.StepRefused.{StepRefused}
 use Rattle.clause_log.specs.declared.steps.StepRefused as refused
 use Rattle.clause_log.specs.Steps.{Ahead, Follows, TheEnd, BadLine, TheLimit, Gives, step_is, tail_of}
 use Rattle.log_check.specs.declared.answer.Check.{Check}
@@ -194,3 +195,7 @@ enumerated_next start (y ∷ ys) (suc i) x e =
 
 pub enumerated_more : {X : Type 0} (start : ℕ) (xs : List X) (i : ℕ) (x : X) → slice_get xs i ≡ Some x → enumerate_from start (take (i + 1) xs) ≡ enumerate_from start (take i xs) ++ (start + i, x) ∷ []
 enumerated_more start xs i x e = ap (λ n. enumerate_from start (take n xs)) (add-one i) ∙ enumerated_next start xs i x e
+
+-- a step that was given is no fault
+pub given_well : (r : Result (Option Step) StepRefused) (step : Option Step) → r ≡ Ok step → r ≡ Err refused.TheVariants.ShelfFault → ⊥
+given_well r step is e = cc

@@ -4,7 +4,7 @@
 //! a lesson of two or fewer literals. One line of the log removes them. Then they are taken out of the lists of
 //! watches, and the arena is packed.
 
-ghost use Rattle.std.specs.Prelude.{◌≡◌, ◌+◌, ◌^◌, ◌<◌, ◌≤◌, ℕ, List, None, Option, OnOk, IfOk, false, true, length, map};
+ghost use Rattle.std.specs.Prelude.{◌≡◌, ◌+◌, ◌^◌, ◌<◌, ◌≤◌, ℕ, List, None, Option, OnOk, IsErrOf, IfOk, false, true, length, map};
 ghost use Rattle.cnf_base.specs.Logs.{LogStep};
 ghost use Rattle.clause_arena.specs.Clauses.{is_live};
 ghost use Rattle.clause_arena.specs.Packing.{moves_of, packed_by};
@@ -40,6 +40,7 @@ impl Search {
         ensures lessons { OnOk result (self.new.lessons ≡ self.old.lessons) }
         ensures vars { OnOk result (self.new.trail.vars ≡ self.old.trail.vars) }
         ensures unbroken { OnOk result (L.broken log.new ≡ false) }
+        ensures intact { IsErrOf result SolveRefused.Memory → L.broken log.new ≡ false }
         ensures cause { HasSolveCause (L.faults log.old) (L.faults log.new) result }
         ensures goes_on { L.goes_on_from log.new log.old }
     {

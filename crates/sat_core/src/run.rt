@@ -3,7 +3,7 @@
 //! of others, and start anew. Behind the last lesson of the budget it goes on only at level 0, where no decision
 //! stands.
 
-ghost use Rattle.std.specs.Prelude.{◌≡◌, ◌+◌, ◌^◌, ◌<◌, ◌≤◌, List, None, Option, OnOk, IfOk, IfNone, MatchOption, false, length};
+ghost use Rattle.std.specs.Prelude.{◌≡◌, ◌+◌, ◌^◌, ◌<◌, ◌≤◌, List, None, Option, OnOk, IsErrOf, IfOk, IfNone, MatchOption, false, length};
 ghost use Rattle.cnf_base.specs.Literals.{IsCnf};
 ghost use Rattle.cnf_base.specs.Logs.{LogStep};
 ghost use Rattle.clause_arena.specs.Words.{clauses_in};
@@ -37,6 +37,7 @@ impl Search {
         ensures falls { IfOk result (λ end. IfNone end (turns_left budget self.new < turns_left budget self.old)) }
         ensures holds { (first : Option (List LogStep)) → HoldsReduced f.now first (L.steps log.old) (clauses_in self.old.arena) self.old.lessons → IfOk result (λ end. MatchOption end (HoldsReduced f.now first (L.steps log.new) (clauses_in self.new.arena) self.new.lessons) (λ outcome. IsTrueOutcome f.now budget first (L.steps log.new) outcome)) }
         ensures unbroken { OnOk result (L.broken log.new ≡ false) }
+        ensures intact { IsErrOf result SolveRefused.Memory → L.broken log.new ≡ false }
         ensures cause { HasSolveCause (L.faults log.old) (L.faults log.new) result }
         ensures goes_on { L.goes_on_from log.new log.old }
     {
@@ -82,6 +83,7 @@ impl Search {
         requires small { length f.now.clauses + budget + 1 < 2 ^ 64 }
         ensures outcome { IfOk result (λ outcome. IsTrueOutcome f.now budget (L.steps log.old) (L.steps log.new) outcome) }
         ensures unbroken { OnOk result (L.broken log.new ≡ false) }
+        ensures intact { IsErrOf result SolveRefused.Memory → L.broken log.new ≡ false }
         ensures cause { HasSolveCause (L.faults log.old) (L.faults log.new) result }
         ensures goes_on { L.goes_on_from log.new log.old }
     {

@@ -1,6 +1,6 @@
 //! The whole search, from the formula to what it comes to.
 
-ghost use Rattle.std.specs.Prelude.{◌≡◌, ◌+◌, ◌^◌, ◌<◌, ◌≤◌, [], IfOk, IfSome, OnOk, false, length};
+ghost use Rattle.std.specs.Prelude.{◌≡◌, ◌+◌, ◌^◌, ◌<◌, ◌≤◌, [], IfOk, IfSome, OnOk, IsErrOf, false, length};
 ghost use Rattle.sat_core.specs.Outcomes.{HasSolveCause, IsTrueOutcome, StopsAtUnits};
 
 use crate::search::Search;
@@ -24,6 +24,7 @@ pub fn solve<L: LogTake>(
     ensures outcome { IfOk result (λ outcome. IsTrueOutcome f.now budget (L.steps log.old) (L.steps log.new) outcome) }
     ensures by_units { IfOk result (StopsAtUnits f.now) }
     ensures unbroken { OnOk result (L.broken log.new ≡ false) }
+    ensures intact { IsErrOf result SolveRefused.Memory → L.broken log.new ≡ false }
     ensures cause { HasSolveCause (L.faults log.old) (L.faults log.new) result }
     ensures goes_on { L.goes_on_from log.new log.old }
 {

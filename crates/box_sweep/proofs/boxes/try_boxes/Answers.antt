@@ -1,7 +1,8 @@
-use Rattle.std.proofs.Common.{rules, ◌||◌, ◌<◌, ap, ◌∙◌, sym, subst, arith, get_or, length}
+use Rattle.std.proofs.Common.{rules, ◌||◌, ◌<◌, ap, ◌∙◌, sym, subst, get_or, length}
+use Rattle.las_io.proofs.Rises.{stays}
 use Rattle.las_spec.specs.Boxes.{sweep_order}
 use Rattle.box_sweep.specs.Words.{word_of}
-use Rattle.box_sweep.proofs.Fronts.{at_error}
+use Rattle.box_sweep.proofs.Fronts.{at_error, went_well}
 use Rattle.box_sweep.proofs.PartLemmas.{broken_between, broken_now}
 use Rattle.box_sweep.proofs.SweepLemmas.{so_far_now, found_now, none_now}
 use Rattle.box_sweep.proofs.OrderLemmas.{number_at}
@@ -25,9 +26,9 @@ loop-number-preserved g c = record {
       so_far_now c.args.spec.now c.args.budget c.args.order.now c.loop-number.number-index c.loop-number.undecided _ _ _ _ _ _ _ _ _ c.requires.order c.in_ok-job.job word (c.loop-number.undecided || c.is_undecided-undecided.result)
       c.size-own.ensures.kept c.loop-number-test.true c.loop-number.invariant.so_far c.in_ok-job.ensures c.in_ok-verdict.ensures.tried (sym (c.is_found.ensures c.in_ok-job.job) ∙ c.if-is_found.false) (ap (λ u. c.loop-number.undecided || u) (c.is_undecided-undecided.ensures c.in_ok-job.job));
   none_begun = search rules;
-  out_later = omega (arith, c.in_ok-verdict.ensures.cause.out_later);
-  err_later = omega (arith, c.in_ok-verdict.ensures.cause.err_later);
-  shelf_later = omega (arith, c.in_ok-verdict.ensures.cause.shelf_later);
+  out_stands = stays _ _ _ c.loop-number.invariant.out_stands c.in_ok-verdict.ensures.cause.out_later (λ rose. went_well _ _ (c.in_ok-verdict.ensures.cause.out_rises rose));
+  err_stands = stays _ _ _ c.loop-number.invariant.err_stands c.in_ok-verdict.ensures.cause.err_later (λ rose. went_well _ _ (c.in_ok-verdict.ensures.cause.err_rises rose));
+  shelf_stands = stays _ _ _ c.loop-number.invariant.shelf_stands c.in_ok-verdict.ensures.cause.shelf_later (λ rose. went_well _ _ (c.in_ok-verdict.ensures.cause.shelf_rises rose));
 }
 
 pub returns-clause-tried : goal.returns-clause-tried

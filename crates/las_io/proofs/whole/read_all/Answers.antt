@@ -1,6 +1,6 @@
-use Rattle.std.proofs.Common.{rules, arith, ℕ, take, ◌++◌, length-append, length-take}
+use Rattle.std.proofs.Common.{rules, arith, refl, ℕ, take, ◌++◌, length-append, length-take}
 use Rattle.las_io.proofs.Given.{nothing_came, none_more, more_came, no_byte_came, all_was_left}
-use Rattle.las_io.proofs.Rises.{rose_through}
+use Rattle.las_io.proofs.Rises.{read_well, rose_through, stays}
 use Rattle.las_io.proofs.whole.read_all.Goals as goal
 
 pub loop-all-init : goal.loop-all-init
@@ -12,7 +12,10 @@ loop-all-init g c = record {
 }
 
 pub returns-in-Err-clause-read_fault : goal.returns-in-Err-clause-read_fault
-returns-in-Err-clause-read_fault g c = λ _. rose_through _ _ _ c.loop-all.invariant.faults c.in-Err.ensures.cause.failed
+returns-in-Err-clause-read_fault g c = λ _. rose_through _ _ _ (omega arith) c.in-Err.ensures.cause.failed
+
+pub returns-in-Err-clause-rises : goal.returns-in-Err-clause-rises
+returns-in-Err-clause-rises g c = λ _. refl
 
 pub returns-in-Err-clause-before_fault : goal.returns-in-Err-clause-before_fault
 returns-in-Err-clause-before_fault g c = λ _. record {
@@ -52,7 +55,7 @@ loop-all-preserved g c = record {
   within = omega (arith, c.in_ok-extend_from_slice.ensures.len, c.in-Ok.ensures.bound, length-take {A = ℕ});
   room = search rules;
   came = rw c.in_ok-extend_from_slice.ensures.items (more_came _ _ _ _ _ _ c.read.new.buf _ c.loop-all.invariant.came (omega (arith, c.in-Ok.ensures.bound)) c.in-Ok.ensures.bytes.0 c.in-Ok.ensures.count);
-  faults = omega arith;
+  faults = stays _ _ _ c.loop-all.invariant.faults c.in-Ok.ensures.cause.later (λ rose. read_well (c.in-Ok.ensures.cause.rises rose));
 }
 
 pub returns-in_err-extend_from_slice-clause-most : goal.returns-in_err-extend_from_slice-clause-most

@@ -1,4 +1,4 @@
-use Rattle.std.proofs.Common.{◌+◌, ◌-◌, ◌≤◌, vec_len}
+use Rattle.std.proofs.Common.{◌≡◌, ◌+◌, ◌-◌, ◌≤◌, vec_len}
 use Rattle.las_io.specs.Moves.{Gives}
 use Rattle.las_io.proofs.whole.read_all.Given as goal
 
@@ -7,7 +7,7 @@ invariant-loop-all g l = record {
   within : vec_len l.all ≤ l.limit + 1;
   room : 1 ≤ vec_len l.piece;
   came : Gives g.S.Source.left g.S.Source.given l.fn.src l.src l.all.items;
-  faults : g.S.Source.faults l.fn.src ≤ g.S.Source.faults l.src;
+  faults : g.S.Source.faults l.src ≡ g.S.Source.faults l.fn.src;
 }
 
 abbrev pub decreases-loop-all : goal.decreases-loop-all

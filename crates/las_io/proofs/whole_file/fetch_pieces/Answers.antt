@@ -1,6 +1,6 @@
 use Rattle.std.proofs.Common.{ℕ, ap, ◌∙◌, ◌==◌, ◌+◌, ◌≤◌, length, None, Some, Err, arith, rules, length-take}
 use Rattle.las_io.proofs.Fetched.{begins, fetch_of, goes_on, none_failed, came_in_vain, file_ends, file_gone, too_long, stay_twice}
-use Rattle.las_io.proofs.Rises.{rose_through}
+use Rattle.las_io.proofs.Rises.{fetched_well, rose_through, stays}
 use Rattle.las_io.proofs.whole_file.fetch_pieces.Goals as goal
 
 pub loop-all-init : goal.loop-all-init
@@ -18,7 +18,7 @@ loop-all-preserved g c =
       within = omega (arith, c.in-Ok.ensures.len, fetch.within, c.in-Ok-Some.ensures.len, length-take {A = ℕ});
       room = search rules;
       so_far = rw c.in-Ok.ensures.items (goes_on _ _ _ _ _ _ _ _ _ _ _ c.loop-all.invariant.so_far fetch (omega arith));
-      faults = omega (arith, c.loop-all.invariant.faults, c.in-Ok-Some.ensures.cause.later);
+      faults = stays _ _ _ c.loop-all.invariant.faults c.in-Ok-Some.ensures.cause.later (λ rose. fetched_well (Some c.in-Ok-Some.count) _ _ c.in-Ok-Some.field-0-is (c.in-Ok-Some.ensures.cause.rises rose));
     }
 
 pub returns-in-Ok-None-clause-end : goal.returns-in-Ok-None-clause-end
@@ -42,7 +42,7 @@ pub returns-in-Err-Failed-clause-begun : goal.returns-in-Err-Failed-clause-begun
 returns-in-Err-Failed-clause-begun g c = c.in-Err-Failed.ensures.fetch.none_begun
 
 pub returns-in-Err-Failed-clause-shelf_fault : goal.returns-in-Err-Failed-clause-shelf_fault
-returns-in-Err-Failed-clause-shelf_fault g c = λ _. rose_through _ _ _ c.loop-all.invariant.faults (c.in-Err-Failed.ensures.cause.failed (ap Err c.in-Err-Failed.field-0-is))
+returns-in-Err-Failed-clause-shelf_fault g c = λ _. rose_through _ _ _ (omega arith) (c.in-Err-Failed.ensures.cause.failed (ap Err c.in-Err-Failed.field-0-is))
 
 pub returns-in-Err-Memory-clause-end : goal.returns-in-Err-Memory-clause-end
 returns-in-Err-Memory-clause-end g c = none_failed _ _ _ _ _ _ _ _ _ _ c.loop-all.invariant.so_far c.in-Err-Memory.ensures.fetch (omega (arith, c.loop-all.all.ok.0))

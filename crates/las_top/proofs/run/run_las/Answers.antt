@@ -1,4 +1,5 @@
 use Rattle.std.proofs.Common.{Some, inl, inr}
+use Rattle.las_top.proofs.FaultLemmas.{none_rose}
 use Rattle.las_top.proofs.run.run_las.Goals as goal
 
 pub returns-in-Ok-clause-answer : goal.returns-in-Ok-clause-answer
@@ -31,3 +32,15 @@ returns-in-Ok-clause-at_memory g c = λ is. elim (c.obey.ensures.at_memory is) [
     left = left;
   })
 ]
+
+pub returns-in-Ok-clause-told : goal.returns-in-Ok-clause-told
+returns-in-Ok-clause-told g c = record {
+  of_source = c.obey.ensures.source_told;
+  of_out = c.obey.ensures.out_told;
+  of_err = c.obey.ensures.err_told;
+  of_shelf = c.obey.ensures.shelf_told;
+  one_sink = c.obey.ensures.one_sink;
+}
+
+pub returns-in-Ok-clause-no_fault : goal.returns-in-Ok-clause-no_fault
+returns-in-Ok-clause-no_fault g c = none_rose _ _ _ (returns-in-Ok-clause-told g c)

@@ -1,9 +1,10 @@
 use Rattle.std.proofs.Common.{◌≡◌, ◌<◌, ◌∙◌, Ok, Err, Some, IfOk, OnSome, IfSome, is_err, sym, ap, refl, subst, arith}
 use Rattle.std.proofs.lemmas.Result.{err_from_is_err_and}
+use Rattle.las_io.proofs.Rises.{stays}
 use Rattle.clause_log.specs.Steps.{Gives, step_is}
 use Rattle.log_check.specs.Scans.{Judges}
 use Rattle.log_check.specs.Answers.{end_is}
-use Rattle.log_check.proofs.CheckLemmas.{accepted_refutes, at_a_bad_line, at_the_end, at_the_limit, begins, behind_the_end, no_memory, no_shelf, not_passed, one_taken}
+use Rattle.log_check.proofs.CheckLemmas.{accepted_refutes, at_a_bad_line, at_the_end, at_the_limit, begins, behind_the_end, given_well, no_memory, no_shelf, not_passed, one_taken}
 use Rattle.log_check.proofs.judge.check.Goals as goal
 
 pub returns-in_err-table-clause-answer : goal.returns-in_err-table-clause-answer
@@ -78,7 +79,7 @@ loop-step-preserved-in-None g c =
       way = one_taken c.args.f.now (g.T.Steps.ahead c.args.steps.now) (g.T.Steps.ahead c.loop-step.steps) (g.T.Steps.ahead c.next.new.self) c.args.f.now.vars c.loop-step.table.state c.take_step.new.table.state c.loop-step.line c.loop-step.ended c.in-Ok-Some.step c.in_ok-why.field-0 c.is_last-ended.result c.loop-step.invariant.way c.if-ended.false
           (subst (λ r. IfSome (g.T.Steps.ahead c.loop-step.steps) (Gives r (g.T.Steps.ahead c.next.new.self))) (c.in-Ok-Some.is ∙ ap Ok c.in-Ok-Some.field-0-is) c.next.ensures.gives) judged c.in-None.is c.is_last-ended.ensures;
       room = omega (arith, less, c.loop-step.invariant.room);
-      faults = omega (arith, c.loop-step.invariant.faults, c.next.ensures.cause.later);
+      faults = stays _ _ _ c.loop-step.invariant.faults c.next.ensures.cause.later (λ rose. given_well _ _ c.in-Ok-Some.is (c.next.ensures.cause.rises rose));
       failed = c.next.ensures.failed ∙ ap is_err (c.in-Ok-Some.is ∙ ap Ok c.in-Ok-Some.field-0-is);
       goes_on = g.met.T.Steps.goes_on_through c.next.new.self c.loop-step.steps c.args.steps.now c.next.ensures.goes_on c.loop-step.invariant.goes_on;
     }
@@ -95,7 +96,7 @@ loop-step-preserved g c =
       way = one_taken c.args.f.now (g.T.Steps.ahead c.args.steps.now) (g.T.Steps.ahead c.loop-step.steps) (g.T.Steps.ahead c.next.new.self) c.args.f.now.vars c.loop-step.table.state c.take_step.new.table.state c.loop-step.line c.loop-step.ended c.in-Ok-Some.step c.in_ok-why.field-0 c.is_last-ended.result c.loop-step.invariant.way c.if-ended.false
           (subst (λ r. IfSome (g.T.Steps.ahead c.loop-step.steps) (Gives r (g.T.Steps.ahead c.next.new.self))) (c.in-Ok-Some.is ∙ ap Ok c.in-Ok-Some.field-0-is) c.next.ensures.gives) judged c.in-None.is c.is_last-ended.ensures;
       room = omega (arith, less, c.loop-step.invariant.room);
-      faults = omega (arith, c.loop-step.invariant.faults, c.next.ensures.cause.later);
+      faults = stays _ _ _ c.loop-step.invariant.faults c.next.ensures.cause.later (λ rose. given_well _ _ c.in-Ok-Some.is (c.next.ensures.cause.rises rose));
       failed = c.next.ensures.failed ∙ ap is_err (c.in-Ok-Some.is ∙ ap Ok c.in-Ok-Some.field-0-is);
       goes_on = g.met.T.Steps.goes_on_through c.next.new.self c.loop-step.steps c.args.steps.now c.next.ensures.goes_on c.loop-step.invariant.goes_on;
     }

@@ -1,8 +1,9 @@
 use Rattle.std.proofs.Common.{rules, ◌≡◌, ◌-◌, ◌++◌, ◌∙◌, ap, List, true, string_bytes, ℕ}
 use Rattle.las_io.specs.Shelves.{FilesStay}
+use Rattle.las_io.proofs.Rises.{stays}
 use Rattle.clause_log.specs.Leaving.{stay_through}
 use Rattle.clause_log.specs.Pieces.{PieceComes, bytes_from, hand_in, is_one_line, reader_ahead}
-use Rattle.clause_log.proofs.PieceLemmas.{end_told, limit_told, log_kept, log_torn, place_after, told_back, torn_more, torn_told}
+use Rattle.clause_log.proofs.PieceLemmas.{came_well, end_told, limit_told, log_kept, log_torn, place_after, told_back, torn_more, torn_told}
 use Rattle.clause_log.proofs.step_reader.StepReader.next_step.Goals as goal
 
 pub returns-then-self-eq-LIMIT-clause-gives : goal.returns-then-self-eq-LIMIT-clause-gives
@@ -57,5 +58,5 @@ loop-count-preserved g c =
       log = log_kept (g.H.Shelf.files f.shelf.now) (string_bytes f.name) (string_bytes s.name) both (hand_in f.piece.items f.at f.filled) n.piece.items s.taken f.taken n.filled n.at n.taken (search rules) (search rules) (search rules) (search rules) comes log;
       files = stay_through (g.H.Shelf.files f.shelf.now) (g.H.Shelf.files s.shelf.now) (g.H.Shelf.files n.shelf.now) c.loop-count.invariant.files c.in_ok-take_piece.ensures.files;
       begun = search rules;
-      faults = search rules;
+      faults = stays _ _ _ c.loop-count.invariant.faults c.in_ok-take_piece.ensures.cause.later (λ rose. came_well _ _ (c.in_ok-take_piece.ensures.cause.rises rose));
     }

@@ -1,4 +1,4 @@
-use Rattle.std.proofs.Common.{◌≡◌, ◌+◌, ◌-◌, ◌^◌, ◌≤◌, ◌++◌, None, true, IfSome, length, string_bytes}
+use Rattle.std.proofs.Common.{◌≡◌, ◌+◌, ◌-◌, ◌^◌, ◌++◌, None, true, IfSome, length, string_bytes}
 use Rattle.las_io.specs.Shelves.{FilesStay}
 use Rattle.clause_log.specs.Pieces.{hand_in, is_one_line, reader_log}
 use Rattle.clause_log.proofs.step_reader.StepReader.next_step.Given as goal
@@ -13,7 +13,7 @@ invariant-loop-count g l = record {
   log : IfSome (g.H.Shelf.files l.fn.self.shelf.now) (λ fs. reader_log (string_bytes l.fn.self.name) (l.torn.items ++ hand_in l.self.piece.items l.self.at l.self.filled) l.self.taken fs ≡ reader_log (string_bytes l.fn.self.name) (hand_in l.fn.self.piece.items l.fn.self.at l.fn.self.filled) l.fn.self.taken fs);
   files : FilesStay (g.H.Shelf.files l.fn.self.shelf.now) (g.H.Shelf.files l.self.shelf.now);
   begun : g.H.Shelf.begun_name l.self.shelf.now ≡ None;
-  faults : g.H.Shelf.faults l.fn.self.shelf.now ≤ g.H.Shelf.faults l.self.shelf.now;
+  faults : g.H.Shelf.faults l.self.shelf.now ≡ g.H.Shelf.faults l.fn.self.shelf.now;
 }
 
 abbrev pub decreases-loop-count : goal.decreases-loop-count

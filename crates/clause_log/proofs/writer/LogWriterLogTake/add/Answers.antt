@@ -4,6 +4,7 @@ use Rattle.cnf_base.specs.Takes.{Takes}
 use Rattle.clause_log.specs.LogText.{step_text}
 use Rattle.clause_log.specs.LogFiles.{Writes, steps_told}
 use Rattle.clause_log.specs.Growing.{begun_goes_on_itself}
+use Rattle.clause_log.specs.Breaking.{breaks_by, breaks_from_itself}
 use Rattle.clause_log.specs.Leaving.{left_from_itself}
 use Rattle.clause_log.proofs.GrowLemmas.{line_goes_on, line_leaves}
 use Rattle.clause_log.proofs.Taken.{addition_is_good, not_broken, step_is_taken}
@@ -36,9 +37,9 @@ returns-clause-goes_on g c =
     let good = addition_is_good c.args.id c.args.lits.now c.args.hints.now c.requires.id c.ranges.id.fits c.requires.lits c.requires.hints (λ k. (c.type_inv.hints k).fits) in
     let text : c.deref.result.now ≡ step_text 0 step = c.deref.ensures.value ∙ c.in_ok-line.ensures in
     let writes : Writes c.put.result (step_text 0 step) name before after = subst (λ t. Writes c.put.result t name before after) text c.put.ensures.line in
-    (c.put.ensures.same_shelf, c.put.ensures.begun, line_leaves (step_text 0 step) c.put.result name before after writes, line_goes_on 0 step (omega arith) good old.broken new.broken c.put.result name before after whole.0 c.put.ensures.broken writes)
+    (c.put.ensures.same_shelf, c.put.ensures.begun, line_leaves (step_text 0 step) c.put.result name before after writes, line_goes_on 0 step (omega arith) good old.broken new.broken c.put.result name before after whole.0 c.put.ensures.broken writes, breaks_by old.broken new.broken (g.H.Shelf.faults old.shelf.now) (g.H.Shelf.faults new.shelf.now) c.put.result whole.0 c.put.ensures.broken c.put.ensures.rises)
 
 pub returns-in_err-line-clause-goes_on : goal.returns-in_err-line-clause-goes_on
 returns-in_err-line-clause-goes_on g c =
     let self = c.args.self.now in
-    (refl, refl, left_from_itself (g.H.Shelf.begun_name self.shelf.now) (g.H.Shelf.files self.shelf.now), begun_goes_on_itself self.broken (g.H.Shelf.begun_name self.shelf.now) (g.H.Shelf.files self.shelf.now))
+    (refl, refl, left_from_itself (g.H.Shelf.begun_name self.shelf.now) (g.H.Shelf.files self.shelf.now), begun_goes_on_itself self.broken (g.H.Shelf.begun_name self.shelf.now) (g.H.Shelf.files self.shelf.now), breaks_from_itself self.broken (g.H.Shelf.faults self.shelf.now))
