@@ -1,10 +1,10 @@
--- Seats of an arena: what of heads, spans and literals decides on them.
-use Rattle.std.proofs.Common.{◌≡◌, ℕ, ◌+◌, ◌*◌, ◌<◌, ◌≤◌, true, false, List, length, take, drop, set, refl, ap, ap₂, ◌∙◌, arith}
+-- Seats of an arena: what of heads, spans, tails and literals decides on them.
+use Rattle.std.proofs.Common.{◌≡◌, ℕ, ◌+◌, ◌*◌, ◌<◌, ◌≤◌, true, false, List, length, take, drop, set, refl, ap, ◌∙◌, arith}
 use Rattle.std.proofs.lemmas.List.{get_or-set_same, get_or-set_other}
 use Rattle.cnf_base.specs.declared.literal.Lit.{Lit}
-use Rattle.clause_arena.specs.declared.arena.Span.{Span}
+use Rattle.clause_arena.specs.declared.arena.Tail.{Tail}
 use Rattle.clause_arena.specs.Clauses.{Live, is_live, lits_of, id_of, link_of, link_in, clause_at, with_clause, without}
-use Rattle.clause_arena.specs.Words.{Block, seat_at, lits_at, head_in, span_in, no_span, word, word_in, clauses_in}
+use Rattle.clause_arena.specs.Words.{Block, seat_at, lits_at, head_in, span_in, tail_in, no_tail, word, word_in, clauses_in}
 use Rattle.clause_arena.proofs.Scanning.{AreSeated, found, Agree, changed, removed}
 use Rattle.clause_arena.proofs.Writing.{run_is, run-length}
 
@@ -33,7 +33,7 @@ lits_taken b r h = lits_in b r h ∙ run_is b.lits (span_in b.spans r).start (sp
 pub size_is : (b : Block) (r : ℕ) → is_live (clauses_in b) r ≡ true → length (lits_of (clauses_in b) r) ≡ (span_in b.spans r).size
 size_is b r h = ap length (lits_in b r h) ∙ run-length (word_in b.lits) (span_in b.spans r).start (span_in b.spans r).size
 
-pub id_is : (b : Block) (r : ℕ) → is_live (clauses_in b) r ≡ true → id_of (clauses_in b) r ≡ (span_in b.spans r).id
+pub id_is : (b : Block) (r : ℕ) → is_live (clauses_in b) r ≡ true → id_of (clauses_in b) r ≡ (tail_in b.tails r).id
 id_is b r h = ap (λ (c : Live). c.id) (here b r h).clause
 
 pub link_is : (b : Block) (r slot : ℕ) → is_live (clauses_in b) r ≡ true → link_of (clauses_in b) r slot ≡ link_in (seat_at b r).clause slot
@@ -48,14 +48,14 @@ pub removed_in : (b d : Block) (r : ℕ) → is_live (clauses_in b) r ≡ true �
 unfolding clauses_in
 removed_in b d r h spans lits a gone = rw (spans, lits) (removed (seat_at b) (seat_at d) (length b.spans) (length b.lits) r (are_seated b) h a gone)
 
--- a seat is decided by its head, its span and its literals
-pub seat-same : (b d : Block) (p : ℕ) → span_in d.spans p ≡ span_in b.spans p → ((k : ℕ) → k < 4 → head_in d.heads p k ≡ head_in b.heads p k) → lits_at d p ≡ lits_at b p → seat_at d p ≡ seat_at b p
-seat-same b d p span head lits =
+-- a seat is decided by its head, its span, its tail and its literals
+pub seat-same : (b d : Block) (p : ℕ) → span_in d.spans p ≡ span_in b.spans p → tail_in d.tails p ≡ tail_in b.tails p → ((k : ℕ) → k < 4 → head_in d.heads p k ≡ head_in b.heads p k) → lits_at d p ≡ lits_at b p → seat_at d p ≡ seat_at b p
+seat-same b d p span tail head lits =
     let e0 : head_in d.heads p 0 ≡ head_in b.heads p 0 = head 0 (omega arith) in
     let e1 : head_in d.heads p 1 ≡ head_in b.heads p 1 = head 1 (omega arith) in
     let e2 : head_in d.heads p 2 ≡ head_in b.heads p 2 = head 2 (omega arith) in
     let e3 : head_in d.heads p 3 ≡ head_in b.heads p 3 = head 3 (omega arith) in
-    rw (lits, e0, e1, e2, e3, span) refl
+    rw (lits, e0, e1, e2, e3, span, tail) refl
 
 -- a word of one head is written: all others stay
 pub head-other : (hs : List Lit) (r k p j : ℕ) (x : Lit) → k < 4 → j < 4 → (p ≡ r → ⊥) → head_in (set hs (4 * r + k) x) p j ≡ head_in hs p j
@@ -67,17 +67,17 @@ head-else hs r k j x apart = get_or-set_other hs (4 * r + k) (4 * r + j) x (word
 pub head-put : (hs : List Lit) (r k : ℕ) (x : Lit) → 4 * r + k < length hs → head_in (set hs (4 * r + k) x) r k ≡ x
 head-put hs r k x lt = get_or-set_same hs (4 * r + k) x (word 0) lt
 
-pub span-other : (ss : List Span) (r p : ℕ) (x : Span) → (p ≡ r → ⊥) → span_in (set ss r x) p ≡ span_in ss p
-span-other ss r p x apart = get_or-set_other ss r p x no_span apart
+pub tail-other : (ts : List Tail) (r p : ℕ) (x : Tail) → (p ≡ r → ⊥) → tail_in (set ts r x) p ≡ tail_in ts p
+tail-other ts r p x apart = get_or-set_other ts r p x no_tail apart
 
-pub span-put : (ss : List Span) (r : ℕ) (x : Span) → r < length ss → span_in (set ss r x) r ≡ x
-span-put ss r x lt = get_or-set_same ss r x no_span lt
+pub tail-put : (ts : List Tail) (r : ℕ) (x : Tail) → r < length ts → tail_in (set ts r x) r ≡ x
+tail-put ts r x lt = get_or-set_same ts r x no_tail lt
 
--- heads and spans of one clause are written, and no literals
-pub agree_on : (b d : Block) (r : ℕ) → d.lits ≡ b.lits → ((p : ℕ) → (span_in d.spans p).start ≡ (span_in b.spans p).start) → ((p : ℕ) → (span_in d.spans p).size ≡ (span_in b.spans p).size) → ((p : ℕ) → (p ≡ r → ⊥) → span_in d.spans p ≡ span_in b.spans p) → ((p k : ℕ) → k < 4 → (p ≡ r → ⊥) → head_in d.heads p k ≡ head_in b.heads p k) → Agree (seat_at b) (seat_at d) r
-agree_on b d r lits starts sizes spans heads =
+-- head and tail of one clause are written, and nothing else
+pub agree_on : (b d : Block) (r : ℕ) → d.lits ≡ b.lits → d.spans ≡ b.spans → ((p : ℕ) → (p ≡ r → ⊥) → tail_in d.tails p ≡ tail_in b.tails p) → ((p k : ℕ) → k < 4 → (p ≡ r → ⊥) → head_in d.heads p k ≡ head_in b.heads p k) → Agree (seat_at b) (seat_at d) r
+agree_on b d r lits spans tails heads =
     record {
-      starts = starts;
-      stops = λ p. ap₂ (λ (x y : ℕ). x + y) (starts p) (sizes p);
-      others = λ p apart _. seat-same b d p (spans p apart) (λ k lt. heads p k lt apart) (rw (lits, starts p, sizes p) refl);
+      starts = λ p. rw spans refl;
+      stops = λ p. rw spans refl;
+      others = λ p apart _. seat-same b d p (rw spans refl) (tails p apart) (λ k lt. heads p k lt apart) (rw (lits, spans) refl);
     }

@@ -1,5 +1,5 @@
 -- The list of live clauses that an arena is seen as.
-use Rattle.std.specs.Prelude.{ℕ, Bool, true, false, List, [], ◌∷◌, map, Option, Some, None, if◌then◌else◌, nat_eq}
+use Rattle.std.specs.Prelude.{◌≡◌, ◌≢◌, ◌-◌, ℕ, Bool, true, false, List, [], ◌∷◌, map, Option, Some, None, if◌then◌else◌, nat_eq, slice_index_or}
 use Rattle.std.specs.List.{list_any, filter}
 use Rattle.cnf_base.specs.declared.literal.Lit.{Lit}
 use Rattle.clause_arena.specs.declared.ClauseRef.{ClauseRef}
@@ -73,3 +73,9 @@ added p n ls = record { place = p; id = n; lits = ls; first = None; second = Non
 -- where the clauses stand
 abbrev pub places : List Live → List ℕ
 places cs = map (λ c. c.place) cs
+
+-- a literal stands at a place of the first two, and another one stands at the other
+pub record StandsBeside (ls : List Lit) (k : ℕ) (lit other : Lit) : Type 0 where
+  pub here : slice_index_or ls k (record { 0 = 0 }) ≡ lit
+  pub beside : slice_index_or ls (1 - k) (record { 0 = 0 }) ≡ other
+  pub apart : other ≢ lit

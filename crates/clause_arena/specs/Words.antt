@@ -1,15 +1,22 @@
--- How clauses stand in an arena: each has a head of four words and a span, and the literals of all stand in one block. What is most often read, the first two literals and the links, is in the head.
-use Rattle.std.specs.Prelude.{ℕ, zero, suc, ◌+◌, ◌*◌, Bool, true, false, ◌&&◌, ◌||◌, List, [], ◌∷◌, ◌++◌, length, take, drop, Option, Some, None, if◌then◌else◌, nat_eq, nat_le, nat_lt, slice_index_or, slice_set}
+-- How clauses stand in an arena: each has a head of four words, a span and a tail, and the literals of all stand in one block. What is most often read, the first two literals and the links, is in the head; what is seldom read is in the tail.
+use Rattle.std.specs.Prelude.{◌≡◌, ℕ, zero, suc, ◌+◌, ◌*◌, ◌/◌, Bool, true, false, ◌&&◌, ◌||◌, List, [], ◌∷◌, ◌++◌, length, take, drop, Option, Some, None, if◌then◌else◌, nat_eq, nat_le, nat_lt, slice_index_or, slice_set}
 use Rattle.cnf_base.specs.declared.literal.Lit.{Lit}
 use Rattle.clause_arena.specs.declared.ClauseRef.{ClauseRef}
 use Rattle.clause_arena.specs.declared.arena.Span.{Span}
+use Rattle.clause_arena.specs.declared.arena.Tail.{Tail}
 use Rattle.clause_arena.specs.Clauses.{Live, place_of}
 
 -- what an arena holds
 pub record Block : Type 0 where
   pub heads : List Lit
   pub spans : List Span
+  pub tails : List Tail
   pub lits : List Lit
+
+-- each clause has a head of four words, a span and a tail
+pub record AreAligned (heads spans tails : ℕ) : Type 0 where
+  pub four : heads ≡ 4 * spans
+  pub one : tails ≡ spans
 
 -- a word of this number
 abbrev pub word : ℕ → Lit
@@ -25,15 +32,23 @@ head_in hs p k = word_in hs (4 * p + k)
 
 -- what is read where there is no span
 abbrev pub no_span : Span
-no_span = record { start = 0; size = 0; id = 0; is_retired = true; left = None; right = None }
+no_span = record { start = 0; size = 0 }
 
 -- the span of the clause with a number
 abbrev pub span_in : List Span → ℕ → Span
 span_in ss p = slice_index_or ss p no_span
 
--- a link, by its word: a place that fits into one, or none, or the place that the span has
+-- what is read where there is no tail
+abbrev pub no_tail : Tail
+no_tail = record { id = 0; is_retired = true; left = None; right = None }
+
+-- the tail of the clause with a number
+abbrev pub tail_in : List Tail → ℕ → Tail
+tail_in ts p = slice_index_or ts p no_tail
+
+-- a link, by its word: a place that fits into one beside a slot, or none, or the place that the tail has
 abbrev pub link_at : ℕ → Option ClauseRef → Option ℕ
-link_at near far = if nat_lt near 4294967294 then Some near else if nat_eq near 4294967294 then place_of far else None
+link_at near far = if nat_lt near 4294967294 then Some (near / 2) else if nat_eq near 4294967294 then place_of far else None
 
 -- n words from a place on
 abbrev pub run : (ℕ → Lit) → ℕ → ℕ → List Lit
@@ -67,14 +82,14 @@ seat_at b p =
     record {
       start = (span_in b.spans p).start;
       stop = (span_in b.spans p).start + (span_in b.spans p).size;
-      is_seen = if (span_in b.spans p).is_retired then false else tells_right (head_in b.heads p 0) (head_in b.heads p 1) (lits_at b p);
+      is_seen = if (tail_in b.tails p).is_retired then false else tells_right (head_in b.heads p 0) (head_in b.heads p 1) (lits_at b p);
       clause =
           record {
             place = p;
-            id = (span_in b.spans p).id;
+            id = (tail_in b.tails p).id;
             lits = lits_at b p;
-            first = link_at (head_in b.heads p 2).0 (span_in b.spans p).left;
-            second = link_at (head_in b.heads p 3).0 (span_in b.spans p).right;
+            first = link_at (head_in b.heads p 2).0 (tail_in b.tails p).left;
+            second = link_at (head_in b.heads p 3).0 (tail_in b.tails p).right;
           };
     }
 
@@ -103,4 +118,4 @@ hidden hs p = slice_set (slice_set hs (4 * p) (word 0)) (4 * p + 1) (word 0)
 
 -- the arena with other literals in the clause with a number
 abbrev pub rewritten : Block → ℕ → List Lit → Block
-rewritten b p xs = record { heads = hidden b.heads p; spans = b.spans; lits = overwritten b.lits (span_in b.spans p).start xs }
+rewritten b p xs = record { heads = hidden b.heads p; spans = b.spans; tails = b.tails; lits = overwritten b.lits (span_in b.spans p).start xs }

@@ -1,15 +1,19 @@
 //! The clauses of an arena. Each has a head of four words, its first two literals and its two links, which
-//! are all that most visits read; a span, which tells where its literals stand; and its literals, in one block
-//! with those of all others. Heads stand side by side, sixteen bytes each, so that the heads of many clauses stay
-//! in a processor's cache where the clauses themselves would not.
+//! are all that most visits read; a span, which tells where its literals stand; a tail, with what is seldom read;
+//! and its literals, in one block with those of all others. Heads stand side by side, sixteen bytes each, and so do
+//! spans, so that those of many clauses stay in a processor's cache where the clauses themselves would not.
+//!
+//! The word of a link names a clause and, in its lowest bit, one of that clause's two slots: a guess through
+//! which of them the list goes on. Whoever walks a list can so read the next link before the literals of
+//! the clause have come from memory.
 //!
 //! The two literals of a head are a copy. Where literals are lent to be written, the copy is made to tell
 //! nothing first: two equal words stand for that.
 
-ghost use Rattle.std.specs.Prelude.{◌≡◌, ℕ, ◌<◌, ◌≤◌, ◌+◌, ◌*◌, ◌^◌, IfOk, OnOk, OnErr, [], ◌∷◌, length, true, false, slice_set, slice_index_or, swap, map};
+ghost use Rattle.std.specs.Prelude.{◌≡◌, ℕ, ◌<◌, ◌≤◌, ◌+◌, ◌*◌, ◌^◌, IfOk, IfSome, OnOk, OnErr, [], ◌∷◌, length, true, false, slice_set, slice_index_or, swap, map};
 ghost use Rattle.std.specs.Borrow.{sem};
-ghost use Rattle.clause_arena.specs.Clauses.{is_live, lits_of, id_of, link_of, with_link, with_lits, without, place_of, places, added};
-ghost use Rattle.clause_arena.specs.Words.{clauses_in, head_in, span_in, seat_at, tells_right, hidden, word};
+ghost use Rattle.clause_arena.specs.Clauses.{StandsBeside, is_live, lits_of, id_of, link_of, with_link, with_lits, without, place_of, places, added};
+ghost use Rattle.clause_arena.specs.Words.{clauses_in, head_in, span_in, tail_in, seat_at, tells_right, hidden, word};
 ghost use Rattle.clause_arena.specs.Lending.{LendsLits};
 ghost use Rattle.clause_arena.specs.Links.{near_of, far_put};
 ghost use Rattle.clause_arena.specs.Packing.{moves_of, packed_by, moved_link};
@@ -22,37 +26,46 @@ use std::marker::Model;
 // The word of a link that leads nowhere.
 const NONE: u32 = 4_294_967_295;
 
-// The word of a link to a place that does not fit into a word: the span has it.
+// The word of a link to a place that does not fit into a word: the tail has it.
 const FAR: u32 = 4_294_967_294;
 
-// Where a clause's literals stand, and what is seldom read.
+// The first place that does not fit into a word beside a slot.
+const FAR_PLACE: u64 = 2_147_483_647;
+
+// Where a clause's literals stand.
 #[derive(Clone, Copy)]
 pub struct Span {
     pub start: usize,
     pub size: usize,
+}
+
+// What is seldom read of a clause.
+#[derive(Clone, Copy)]
+pub struct Tail {
     pub id: u64,
     pub is_retired: bool,
     pub left: Option<ClauseRef>,
     pub right: Option<ClauseRef>,
 }
 
-/// Clauses in tables: their heads, their spans and the literals of all.
+/// Clauses in tables: their heads, their spans, their tails and the literals of all.
 #[derive(Drop)]
 pub struct Arena {
     heads: Vec<Lit>,
     spans: Vec<Span>,
+    tails: Vec<Tail>,
     lits: Vec<Lit>,
 }
 
 impl Model for Arena {
-    ghost use Rattle.std.specs.Prelude.{◌≡◌, ◌*◌, length};
-    ghost use Rattle.clause_arena.specs.Words.{Block};
+    ghost use Rattle.std.specs.Prelude.{length};
+    ghost use Rattle.clause_arena.specs.Words.{Block, AreAligned};
 
     ghost Value = { Block };
 
-    ghost view = { λ a. record { heads = a.heads.items; spans = a.spans.items; lits = a.lits.items } };
+    ghost view = { λ a. record { heads = a.heads.items; spans = a.spans.items; tails = a.tails.items; lits = a.lits.items } };
 
-    ghost invariant = { λ a. length a.heads.items ≡ 4 * length a.spans.items };
+    ghost invariant = { λ a. AreAligned (length a.heads.items) (length a.spans.items) (length a.tails.items) };
 }
 
 impl Arena {
@@ -63,6 +76,7 @@ impl Arena {
         Arena {
             heads: Vec::new(alloc),
             spans: Vec::new(alloc),
+            tails: Vec::new(alloc),
             lits: Vec::new(alloc),
         }
     }
@@ -87,11 +101,14 @@ impl Arena {
     {
         self.heads.reserve(4)?;
         self.spans.reserve(1)?;
+        self.tails.reserve(1)?;
         self.lits.reserve(lits.len())?;
         let place = self.spans.len() as u64;
         let span = Span {
             start: self.lits.len(),
             size: lits.len(),
+        };
+        let tail = Tail {
             id,
             is_retired: false,
             left: None,
@@ -101,6 +118,7 @@ impl Arena {
         self.heads
             .extend_from_slice(&[first, second, Lit(NONE), Lit(NONE)])?;
         self.spans.push(span)?;
+        self.tails.push(tail)?;
         self.lits.extend_from_slice(lits)?;
         Ok(ClauseRef(place))
     }
@@ -157,7 +175,7 @@ impl Arena {
         requires { is_live (clauses_in self.now) r.0 ≡ true }
         ensures { result ≡ id_of (clauses_in self.now) r.0 }
     {
-        self.span(r).id
+        self.tail(r).id
     }
 
     /// Where a live clause's link leads: its first at slot 0, its second at slot 1.
@@ -168,13 +186,59 @@ impl Arena {
     {
         let near = self.head(r, 2 + slot as usize).0;
         if near < FAR {
-            return Some(ClauseRef(u64::from(near)));
+            return Some(ClauseRef(u64::from(near / 2)));
         }
         if near == NONE {
             return None;
         }
-        let span = self.span(r);
-        if slot == 0 { span.left } else { span.right }
+        self.far_link(r, slot)
+    }
+
+    // Where a link leads whose place stands in the tail.
+    #[cold]
+    #[inline(never)]
+    fn far_link(&self, r: ClauseRef, slot: u8) -> Option<ClauseRef>
+        requires live { is_live (clauses_in self.now) r.0 ≡ true }
+        requires slot_in { slot < 2 }
+        requires far { (head_in self.now.heads r.0 (2 + slot)).0 ≡ 4294967294 }
+        ensures { place_of result ≡ link_of (clauses_in self.now) r.0 slot }
+    {
+        let tail = self.tail(r);
+        if slot == 0 { tail.left } else { tail.right }
+    }
+
+    /// Where a live clause's link leads, as `link` says, and a guess through which of its slots the clause there
+    /// stands in the same list. Nothing is promised of the guess: `beside` tells whether it is right.
+    pub fn step(&self, r: ClauseRef, slot: u8) -> (Option<ClauseRef>, u8)
+        requires live { is_live (clauses_in self.now) r.0 ≡ true }
+        requires slot_in { slot < 2 }
+        ensures link { place_of result.0 ≡ link_of (clauses_in self.now) r.0 slot }
+        ensures near { result.1 < 2 }
+    {
+        let word = self.head(r, 2 + slot as usize).0;
+        if word < FAR {
+            return (Some(ClauseRef(u64::from(word / 2))), (word % 2) as u8);
+        }
+        if word == NONE {
+            return (None, 0);
+        }
+        (self.far_link(r, slot), 0)
+    }
+
+    /// The other of the first two literals of a live clause, where the one at k is this literal and the two differ.
+    /// Else there is no answer, and there may be none behind literals that were lent to be written.
+    pub fn beside(&self, r: ClauseRef, k: u8, lit: Lit) -> Option<Lit>
+        requires live { is_live (clauses_in self.now) r.0 ≡ true }
+        requires near { k < 2 }
+        ensures { IfSome result (StandsBeside (lits_of (clauses_in self.now) r.0) k lit) }
+    {
+        let here = self.head(r, k as usize);
+        let other = self.head(r, 1 - k as usize);
+        if here == lit && other != lit {
+            Some(other)
+        } else {
+            None
+        }
     }
 
     /// Lets a live clause's link lead to a clause, or nowhere.
@@ -193,7 +257,7 @@ impl Arena {
         ensures linked { clauses_in self.new ≡ with_link (clauses_in self.old) r.0 slot (place_of to) }
         ensures long { length self.new.spans ≡ length self.old.spans }
     {
-        let near = near_of(to);
+        let near = near_of(to, self.guess(r, slot, to));
         if near == FAR {
             self.put_far(r, slot, to);
         }
@@ -205,9 +269,9 @@ impl Arena {
         requires { is_live (clauses_in self.old) r.0 ≡ true }
         ensures { clauses_in self.new ≡ without (clauses_in self.old) r.0 }
     {
-        let mut span = self.span(r);
-        span.is_retired = true;
-        self.spans[r.0 as usize] = span;
+        let mut tail = self.tail(r);
+        tail.is_retired = true;
+        self.tails[r.0 as usize] = tail;
     }
 
     /// The live clauses, the newest first.
@@ -245,7 +309,7 @@ impl Arena {
         requires fits { span.start + span.size ≤ length self.now.lits }
         ensures { result ≡ (seat_at self.now at).is_seen }
     {
-        !span.is_retired
+        !self.tails[at].is_retired
             && tells_right(
                 self.heads[4 * at],
                 self.heads[4 * at + 1],
@@ -292,6 +356,7 @@ impl Arena {
         let mut copy = Arena {
             heads: Vec::new(alloc),
             spans: Vec::new(alloc),
+            tails: Vec::new(alloc),
             lits: Vec::new(alloc),
         };
         let mut left = refs.len();
@@ -311,6 +376,29 @@ impl Arena {
         ensures { result ≡ span_in self.now.spans r.0 }
     {
         self.spans[r.0 as usize]
+    }
+
+    // The tail of a live clause.
+    fn tail(&self, r: ClauseRef) -> Tail
+        requires { is_live (clauses_in self.now) r.0 ≡ true }
+        ensures { result ≡ tail_in self.now.tails r.0 }
+    {
+        self.tails[r.0 as usize]
+    }
+
+    // A guess through which slot a clause stands in the list of the literal that a live clause has at this slot.
+    fn guess(&self, r: ClauseRef, slot: u8, to: Option<ClauseRef>) -> u32
+        requires live { is_live (clauses_in self.now) r.0 ≡ true }
+        requires slot_in { slot < 2 }
+        ensures { result < 2 }
+    {
+        match to {
+            Some(next) if next.0 < self.spans.len() as u64 => {
+                let lit = self.head(r, slot as usize);
+                u32::from(self.heads[4 * next.0 as usize] != lit)
+            }
+            _ => 0,
+        }
     }
 
     // Where the head of a live clause begins.
@@ -345,18 +433,19 @@ impl Arena {
         self.heads[at + k] = to;
     }
 
-    // Writes a link's place into the span of a live clause.
+    // Writes a link's place into the tail of a live clause.
     fn put_far(&mut self, r: ClauseRef, slot: u8, to: Option<ClauseRef>)
         requires { is_live (clauses_in self.old) r.0 ≡ true }
-        ensures { self.new ≡ record self.old { spans = slice_set self.old.spans r.0 (far_put slot to (span_in self.old.spans r.0)) } }
+        ensures put { self.new ≡ record self.old { tails = slice_set self.old.tails r.0 (far_put slot to (tail_in self.old.tails r.0)) } }
+        ensures room { r.0 < length self.old.tails }
     {
-        let mut span = self.span(r);
+        let mut tail = self.tail(r);
         if slot == 0 {
-            span.left = to;
+            tail.left = to;
         } else {
-            span.right = to;
+            tail.right = to;
         }
-        self.spans[r.0 as usize] = span;
+        self.tails[r.0 as usize] = tail;
     }
 
     // Lets the head of a live clause tell no literals.
@@ -399,12 +488,19 @@ fn tells_right(first: Lit, second: Lit, lits: &[Lit]) -> bool
     first == second || lits.len() >= 2 && lits[0] == first && lits[1] == second
 }
 
-// The word of a link.
-fn near_of(to: Option<ClauseRef>) -> u32
-    ensures { result ≡ near_of to }
+// The word of a link, with a guess of a slot.
+fn near_of(to: Option<ClauseRef>, guess: u32) -> u32
+    requires { guess < 2 }
+    ensures { result ≡ near_of to guess }
 {
     match to {
-        Some(r) => r.0.min(u64::from(FAR)) as u32,
+        Some(r) => {
+            if r.0 < FAR_PLACE {
+                2 * r.0 as u32 + guess
+            } else {
+                FAR
+            }
+        }
         None => NONE,
     }
 }
