@@ -1,4 +1,5 @@
-// The files of one folder, as a shelf that tells no contents.
+// The files of one folder, as a shelf that tells no contents. What is appended is gathered, and written when
+// there is much of it or when the file is finished: a log has many short lines.
 ghost use Rattle.std.specs.Prelude.{◌≡◌, ◌<◌, ◌≤◌, ◌++◌, ⊤, codes, length, is_some, IsSome, IsTrue, None, Some, IfOk, IfSome, MatchResult, unwrap_or, string_bytes};
 ghost use Rattle.las_io.specs.Counts.{HasFaultCause, Rose};
 ghost use Rattle.las_io.specs.Names.{is_lawful_name};
@@ -10,9 +11,12 @@ use crate::{IoBad, Shelf};
 use std::alloc::{AllocError, Global};
 use std::fs;
 use std::fs::{File, OpenFile};
-use std::io::{ErrorKind, Read, Seek, SeekFrom, Write};
+use std::io::{BufWriter, ErrorKind, Read, Seek, SeekFrom, Write};
 use std::marker::Model;
 use std::rt::Files;
+
+// How many bytes are gathered before they are written.
+const GATHERED: usize = 65_536;
 
 /// A folder of the system. Its two counts stop at the last value of `u64`.
 #[derive(Drop)]
@@ -27,8 +31,8 @@ pub struct DirShelf<R: Files + Drop> {
 
 // The file that is begun, and its name.
 #[derive(Drop)]
-struct Begun<F> {
-    file: F,
+struct Begun<F: Write + Drop> {
+    file: BufWriter<F>,
     name: String,
 }
 
@@ -127,30 +131,6 @@ fn read_some<F: Read>(file: &mut F, buf: &mut [u8]) -> Result<usize, StreamFault
     Err(StreamFault::Interrupted)
 }
 
-// A write that a signal cut off is tried again.
-fn write_some<F: Write>(file: &mut F, piece: &[u8]) -> Result<usize, StreamFault>
-    ensures bound { IfOk result (λ n. n ≤ length piece.now) }
-    ensures progress { IfOk result (λ n. 0 < length piece.now → 0 < n) }
-{
-    for _ in 0..u64::MAX {
-        match file.write(piece) {
-            Ok(0) if !piece.is_empty() => return Err(StreamFault::NothingTaken),
-            Ok(count) => return Ok(count),
-            Err(error) if error.kind() == ErrorKind::Interrupted => {}
-            Err(error) => return Err(StreamFault::Stream(error)),
-        }
-    }
-    Err(StreamFault::Interrupted)
-}
-
-fn write_whole<F: Write>(file: &mut F, piece: &[u8]) -> Result<(), StreamFault> {
-    let mut done = 0;
-    while done < piece.len() {
-        done += write_some(file, &piece[done..])?;
-    }
-    Ok(())
-}
-
 impl<R: Files + Drop> Shelf for DirShelf<R> {
     ghost files = { λ _. None };
 
@@ -183,12 +163,15 @@ impl<R: Files + Drop> Shelf for DirShelf<R> {
         let Ok(name) = String::from_str(self.alloc, name) else {
             return Err(IoBad::Memory);
         };
-        match self.try_begin(path.as_str()) {
+        let Ok(file) = self.try_begin(path.as_str()) else {
+            return Err(self.count_fault());
+        };
+        match BufWriter::with_capacity(self.alloc, GATHERED, file) {
             Ok(file) => {
                 self.begun = Some(Begun { file, name });
                 Ok(())
             }
-            Err(_) => Err(self.count_fault()),
+            Err(_) => Err(IoBad::Memory),
         }
     }
 
@@ -203,7 +186,7 @@ impl<R: Files + Drop> Shelf for DirShelf<R> {
         let Some(mut begun) = self.begun.take() else {
             return Ok(());
         };
-        let written = write_whole(&mut begun.file, piece);
+        let written = begun.file.write_all(piece);
         self.begun = Some(begun);
         match written {
             Ok(()) => Ok(()),
@@ -211,7 +194,7 @@ impl<R: Files + Drop> Shelf for DirShelf<R> {
         }
     }
 
-    // The file is closed where it is dropped.
+    // The file is closed where it is dropped, and what is still gathered is written before.
     fn finish(&mut self) -> Result<(), IoBad>
         requires { IsSome self.old.begun }
         ensures begun { self.new.begun ≡ None }
@@ -220,8 +203,13 @@ impl<R: Files + Drop> Shelf for DirShelf<R> {
 
         ensures same { self.new.folder ≡ self.old.folder }
     {
-        self.begun = None;
-        Ok(())
+        let Some(mut begun) = self.begun.take() else {
+            return Ok(());
+        };
+        match begun.file.flush() {
+            Ok(()) => Ok(()),
+            Err(_) => Err(self.count_fault()),
+        }
     }
 
     fn fetch(&mut self, name: &str, at: u64, buf: &mut [u8]) -> Result<Option<usize>, IoBad>
