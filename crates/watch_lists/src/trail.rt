@@ -6,6 +6,7 @@ ghost use Rattle.cnf_base.specs.Literals.{variable};
 ghost use Rattle.watch_lists.specs.Entries.{value_in, level_of, reason_of, depth_of, entry, entry_for, level_after, is_assigned};
 ghost use Rattle.clause_arena.specs.Clauses.{Live};
 ghost use Rattle.watch_lists.specs.Trails.{Seen, IsTrail, popped};
+ghost use Rattle.watch_lists.specs.Keeping.{told};
 ghost use Rattle.watch_lists.specs.Fits.{Fits, attached_in};
 ghost use Rattle.watch_lists.specs.Moving.{AreNamed, moved_trail};
 
@@ -23,13 +24,21 @@ pub struct Entry {
     pub reason: Option<ClauseRef>,
 }
 
+// What is known of a literal: a byte, since propagation lives on it.
+#[derive(Clone, Copy)]
+pub enum Known {
+    Open,
+    True,
+    False,
+}
+
 /// A trail: the literals that are true, in the order in which they became so, with their levels and
 /// reasons; and the lists of the clauses that watch each literal.
 #[derive(Drop)]
 pub struct Trail {
     entries: Vec<Entry>,
     // The value of each literal, by its number.
-    values: Vec<Option<bool>>,
+    values: Vec<Known>,
     // The place among the entries of each variable that has one.
     places: Vec<u32>,
     // The first clause in the list of each literal.
@@ -38,16 +47,16 @@ pub struct Trail {
 }
 
 impl Model for Trail {
-    ghost use Rattle.std.specs.Prelude.{length};
+    ghost use Rattle.std.specs.Prelude.{length, map};
     ghost use Rattle.std.specs.Vec.{vec_capacity};
     ghost use Rattle.watch_lists.specs.Trails.{Seen};
-    ghost use Rattle.watch_lists.specs.Keeping.{IsKept};
+    ghost use Rattle.watch_lists.specs.Keeping.{IsKept, told};
 
     ghost Value = { Seen };
 
     ghost view = { λ t. record { vars = length t.places.items; entries = t.entries.items; heads = t.heads.items; walked = t.walked } };
 
-    ghost invariant = { λ t. IsKept (record { vars = length t.places.items; entries = t.entries.items; heads = t.heads.items; walked = t.walked }) t.values.items t.places.items (vec_capacity t.entries) };
+    ghost invariant = { λ t. IsKept (record { vars = length t.places.items; entries = t.entries.items; heads = t.heads.items; walked = t.walked }) (map told t.values.items) t.places.items (vec_capacity t.entries) };
 }
 
 impl Trail {
@@ -62,7 +71,7 @@ impl Trail {
         let lits = 2 * vars as usize;
         Ok(Trail {
             entries: Vec::with_capacity(alloc, vars as usize)?,
-            values: vec![in alloc; None; lits]?,
+            values: vec![in alloc; Known::Open; lits]?,
             places: vec![in alloc; 0; vars as usize]?,
             heads: vec![in alloc; None; lits]?,
             walked: 0,
@@ -80,6 +89,18 @@ impl Trail {
     pub fn value(&self, lit: Lit) -> Option<bool>
         requires { variable lit < self.now.vars }
         ensures { result ≡ value_in self.now.entries lit }
+    {
+        match self.known(lit) {
+            Known::Open => None,
+            Known::True => Some(true),
+            Known::False => Some(false),
+        }
+    }
+
+    // What is known of a literal.
+    pub(crate) fn known(&self, lit: Lit) -> Known
+        requires { variable lit < self.now.vars }
+        ensures { told result ≡ value_in self.now.entries lit }
     {
         self.values[lit.0 as usize]
     }
@@ -185,8 +206,8 @@ impl Trail {
         let place = self.entries.len() as u32;
         let level = self.level_for(reason);
         self.places[lit.0 as usize / 2] = place;
-        self.values[lit.0 as usize] = Some(true);
-        self.values[lit.negated().0 as usize] = Some(false);
+        self.values[lit.0 as usize] = Known::True;
+        self.values[lit.negated().0 as usize] = Known::False;
         if self.entries.push(Entry { lit, level, reason }).is_err() {
             unreachable!()
         }
@@ -200,8 +221,8 @@ impl Trail {
     {
         let place = self.entries.len() - 1;
         let lit = self.entries[place].lit;
-        self.values[lit.0 as usize] = None;
-        self.values[lit.negated().0 as usize] = None;
+        self.values[lit.0 as usize] = Known::Open;
+        self.values[lit.negated().0 as usize] = Known::Open;
         self.entries.truncate(place);
         self.walked = self.walked.min(place);
     }
