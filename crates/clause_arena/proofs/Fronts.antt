@@ -126,3 +126,15 @@ beside_read b r k here other lit h near one two is apart =
       beside = sym (front_read b r (1 - k) h (omega arith) differ) ∙ sym two;
       apart = apart;
     }
+
+-- a head whose first two words differ tells no other where the literal is not at the place, or is at both
+pub beside_none : (b : Block) (r k : ℕ) (here other lit : Lit) → is_live (clauses_in b) r ≡ true → k < 2 → here ≡ head_in b.heads r k → other ≡ head_in b.heads r (1 - k) → (here.0 ≡ other.0 → ⊥) → (here ≡ lit → other ≡ lit) → StandsBeside (lits_of (clauses_in b) r) k lit (get_or (lits_of (clauses_in b) r) (1 - k) (word 0)) → ⊥
+beside_none b r k here other lit h near one two apart both s =
+    let differ : nat_eq (head_in b.heads r 0).0 (head_in b.heads r 1).0 ≡ false =
+    elim (cases_eq k 0) [
+      | inl e ↦ ne_eqb (head_in b.heads r 0).0 (head_in b.heads r 1).0 (λ q. apart (ap (λ (l : Lit). l.0) (one ∙ ap (head_in b.heads r) e) ∙ q ∙ ap (λ (l : Lit). l.0) (sym (two ∙ ap (λ j. head_in b.heads r (1 - j)) e))))
+      | inr n ↦ (let e : k ≡ 1 = omega arith in ne_eqb (head_in b.heads r 0).0 (head_in b.heads r 1).0 (λ q. apart (ap (λ (l : Lit). l.0) (one ∙ ap (head_in b.heads r) e) ∙ sym q ∙ ap (λ (l : Lit). l.0) (sym (two ∙ ap (λ j. head_in b.heads r (1 - j)) e)))))
+    ] in
+    let at : here ≡ get_or (lits_of (clauses_in b) r) k (word 0) = one ∙ front_read b r k h near differ in
+    let beside : other ≡ get_or (lits_of (clauses_in b) r) (1 - k) (word 0) = two ∙ front_read b r (1 - k) h (omega arith) differ in
+    s.apart (sym beside ∙ both (at ∙ s.here))

@@ -79,3 +79,8 @@ pub record StandsBeside (ls : List Lit) (k : ℕ) (lit other : Lit) : Type 0 whe
   pub here : slice_index_or ls k (record { 0 = 0 }) ≡ lit
   pub beside : slice_index_or ls (1 - k) (record { 0 = 0 }) ≡ other
   pub apart : other ≢ lit
+
+-- the other of the first two literals is told exactly where the one at the place is this literal, and the other is another
+abbrev pub TellsBeside : List Lit → ℕ → Lit → Option Lit → Type 0
+TellsBeside ls k lit None = StandsBeside ls k lit (slice_index_or ls (1 - k) (record { 0 = 0 })) → ⊥
+TellsBeside ls k lit (Some other) = StandsBeside ls k lit other

@@ -12,7 +12,7 @@
 
 ghost use Rattle.std.specs.Prelude.{◌≡◌, ℕ, ◌<◌, ◌≤◌, ◌+◌, ◌*◌, ◌^◌, IfOk, IfSome, OnOk, OnErr, [], ◌∷◌, length, true, false, slice_set, slice_index_or, swap, map};
 ghost use Rattle.std.specs.Borrow.{sem};
-ghost use Rattle.clause_arena.specs.Clauses.{StandsBeside, is_live, lits_of, id_of, link_of, with_link, with_lits, without, place_of, places, added};
+ghost use Rattle.clause_arena.specs.Clauses.{TellsBeside, is_live, lits_of, id_of, link_of, with_link, with_lits, without, place_of, places, added};
 ghost use Rattle.clause_arena.specs.Words.{clauses_in, head_in, span_in, tail_in, seat_at, tells_right, hidden, word};
 ghost use Rattle.clause_arena.specs.Lending.{LendsLits};
 ghost use Rattle.clause_arena.specs.Links.{near_of, far_put};
@@ -226,15 +226,36 @@ impl Arena {
     }
 
     /// The other of the first two literals of a live clause, where the one at k is this literal and the two differ.
-    /// Else there is no answer, and there may be none behind literals that were lent to be written.
+    /// Else there is no answer.
     pub fn beside(&self, r: ClauseRef, k: u8, lit: Lit) -> Option<Lit>
         requires live { is_live (clauses_in self.now) r.0 ≡ true }
         requires near { k < 2 }
-        ensures { IfSome result (StandsBeside (lits_of (clauses_in self.now) r.0) k lit) }
+        requires long { 2 ≤ length (lits_of (clauses_in self.now) r.0) }
+        ensures { TellsBeside (lits_of (clauses_in self.now) r.0) k lit result }
     {
         let here = self.head(r, k as usize);
         let other = self.head(r, 1 - k as usize);
         if here == lit && other != lit {
+            return Some(other);
+        }
+        if here == other {
+            return self.beside_read(r, k, lit);
+        }
+        None
+    }
+
+    // The same where the head tells nothing.
+    #[cold]
+    #[inline(never)]
+    fn beside_read(&self, r: ClauseRef, k: u8, lit: Lit) -> Option<Lit>
+        requires live { is_live (clauses_in self.now) r.0 ≡ true }
+        requires near { k < 2 }
+        requires long { 2 ≤ length (lits_of (clauses_in self.now) r.0) }
+        ensures { TellsBeside (lits_of (clauses_in self.now) r.0) k lit result }
+    {
+        let lits = self.lits(r);
+        let other = lits[1 - k as usize];
+        if lits[k as usize] == lit && other != lit {
             Some(other)
         } else {
             None
