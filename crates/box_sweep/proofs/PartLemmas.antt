@@ -5,6 +5,7 @@ use Rattle.std.proofs.lemmas.Bool.{or_parts}
 use Rattle.std.proofs.lemmas.List.{map-append, drop_more, take-append-drop}
 use Rattle.las_base.specs.declared.Size.{Size}
 use Rattle.las_base.specs.Jobs.{Task}
+use Rattle.las_base.proofs.Lists.{any_push}
 use Rattle.las_io.specs.Moves.{AppendsFront}
 use Rattle.las_io.specs.Shelves.{File, OthersStay, Told, file_of}
 use Rattle.las_spec.specs.Boxes.{sweep_order}
@@ -18,7 +19,7 @@ use Rattle.box_sweep.specs.Sweeps.{AreTried, HasTriedAll, IsLogOf, IsSoFar, Othe
 use Rattle.box_sweep.specs.Verdicts.{Undecided}
 use Rattle.box_sweep.proofs.Fronts.{front_behind, front_of_all, front_of_more, front_of_nothing}
 use Rattle.box_sweep.proofs.OrderLemmas.{next_is_apart}
-use Rattle.box_sweep.proofs.SweepLemmas.{all_push, any_push, found_order, others_pushed, push_text, since_first, so_far_begins, still_all}
+use Rattle.box_sweep.proofs.SweepLemmas.{all_push, found_order, others_pushed, push_text, since_first, so_far_begins, still_all}
 
 -- ---- the boxes that have no word yet
 

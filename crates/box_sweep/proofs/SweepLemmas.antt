@@ -1,14 +1,14 @@
 -- The report so far, box by box, and its end.
 use Rattle.std.proofs.Common.{◌≡◌, ℕ, ◌+◌, ◌<◌, ◌≤◌, Bool, true, false, ◌||◌, List, [], ◌∷◌, ◌++◌, map, take, drop, length, get_or, Option, Some, None, option_map, refl, sym, ap, ◌∙◌, arith, subst, inl, inr, append-nil}
-use Rattle.std.specs.List.{AllByRecursion, flat_map, list_any}
+use Rattle.std.specs.List.{AllByRecursion, flat_map}
 use Rattle.std.specs.Io.KnownBytes.{Appends}
 use Rattle.std.proofs.KnownBytes.{Appends-nil, Appends-trans}
 use Rattle.std.proofs.lemmas.Bool.{or_parts}
 use Rattle.std.proofs.lemmas.Grind.{flat_map-append}
 use Rattle.std.proofs.lemmas.List.{map-append, drop_more, take-append-drop, take_all, take_more}
-use Rattle.std.proofs.lemmas.List.Folds.{list_any-append}
 use Rattle.las_base.specs.declared.Size.{Size}
 use Rattle.las_base.specs.Jobs.{Task}
+use Rattle.las_base.proofs.Lists.{any_push}
 use Rattle.las_io.specs.Shelves.{File, OthersStay, Told}
 use Rattle.clause_log.specs.LogText.{read_log}
 use Rattle.las_spec.specs.Boxes.{sweep_order}
@@ -68,13 +68,6 @@ others_pushed xs x files mid after first then = told_through (OtherFilesStay xs)
 
 pub push_text : {X : Type 0} (f : X → List ℕ) (xs : List X) (x : X) → flat_map f xs ++ f x ≡ flat_map f (xs ++ x ∷ [])
 push_text f xs x = ap (λ t. flat_map f xs ++ t) (sym (append-nil (f x))) ∙ sym (flat_map-append f xs (x ∷ []))
-
-pub any_push : {X : Type 0} (q : X → Bool) (xs : List X) (x : X) → list_any q (xs ++ x ∷ []) ≡ (list_any q xs || q x)
-any_push q xs x = list_any-append q xs (x ∷ []) ∙ ap (λ r. list_any q xs || r) (or_false (q x))
-  where
-    or_false : (b : Bool) → (b || false) ≡ b
-    or_false true = refl
-    or_false false = refl
 
 -- boxes behind one that is found are not tried
 pub found_order : (xs : List Tried) (x : Tried) (rest : List Size) → has_found xs ≡ false → is_found x.word ≡ true → AreTried (map (λ y. y.box) xs ++ x.box ∷ rest) (xs ++ x ∷ [])

@@ -1,8 +1,8 @@
 -- The steps of a log that is read in pieces.
-use Rattle.std.proofs.Common.{◌≡◌, ◌⊎◌, inl, inr, ℕ, ◌+◌, ◌-◌, ◌^◌, ◌<◌, ◌≤◌, Bool, true, false, not, nat_le, List, [], ◌∷◌, ◌++◌, length, take, drop, Option, Some, None, IfSome, IfOk, Result, Ok, Err, unwrap_or, refl, sym, ap, ◌∙◌, subst, arith, nat_eq, append-nil, append_assoc, length-append, length-take}
+use Rattle.std.proofs.Common.{◌≡◌, ◌⊎◌, inl, inr, ℕ, ◌+◌, ◌-◌, ◌^◌, ◌<◌, ◌≤◌, Bool, true, false, not, nat_le, List, [], ◌∷◌, ◌++◌, length, take, drop, Option, Some, None, IfSome, Result, Ok, Err, unwrap_or, refl, sym, ap, ◌∙◌, subst, arith, nat_eq, append-nil, append_assoc, length-append, length-take}
 use Rattle.std.specs.Option.{option_map}
 use Rattle.std.proofs.lemmas.Bool.{and_parts, and_from, cases_lt, le-leb, lt-leb}
-use Rattle.std.proofs.lemmas.List.{take_all, take-append-le, drop-take, take-take, drop_all, length-drop, drop-drop}
+use Rattle.std.proofs.lemmas.List.{take_all, drop-take, take-take, drop_all, length-drop, drop-drop}
 use Rattle.std.proofs.Math.Seq.{take-add}
 use Rattle.las_io.specs.Shelves.{File, FilesStay, IsFetched, file_of}
 use Rattle.cnf_base.specs.Logs.{LogStep, Tail, LogEnd, Malformed, Limit}
@@ -25,15 +25,12 @@ part_then false line more all = line_then line more all
 part_then true line more all =
     ap (λ (p : List (List ℕ) × List ℕ). at_limit (read_lines p.0 [])) (one_line line more all) ∙ onto_limit (step_of line) (read_lines (whole_lines more).0 [])
 
-one_line_more : (xs ys : List ℕ) → is_one_line xs ≡ true → is_one_line ys ≡ true → is_one_line (xs ++ ys) ≡ true
-one_line_more [] ys p q = q
-one_line_more (x ∷ xs) ys p q =
-    let parts = and_parts (not (nat_eq x 10)) (is_one_line xs) p in
-    and_from (not (nat_eq x 10)) (is_one_line (xs ++ ys)) parts.0 (one_line_more xs ys parts.1 q)
-
 -- a line that has begun goes on over bytes with no line feed
-pub torn_more : (torn hand : List ℕ) → is_one_line torn ≡ true → is_one_line hand ≡ true → is_one_line (torn ++ hand) ≡ true
-torn_more torn hand p q = one_line_more torn hand p q
+pub torn_more : (xs ys : List ℕ) → is_one_line xs ≡ true → is_one_line ys ≡ true → is_one_line (xs ++ ys) ≡ true
+torn_more [] ys p q = q
+torn_more (x ∷ xs) ys p q =
+    let parts = and_parts (not (nat_eq x 10)) (is_one_line xs) p in
+    and_from (not (nat_eq x 10)) (is_one_line (xs ++ ys)) parts.0 (torn_more xs ys parts.1 q)
 
 -- the first line left: what was torn, and the bytes up to the first line feed at hand
 pub first_line : (room : ℕ) (torn hand rest : List ℕ) (n : ℕ) → is_one_line torn ≡ true → HasFeedAt hand n
@@ -42,7 +39,7 @@ first_line room torn hand rest n all h =
     let bytes : (torn ++ hand) ++ take room rest ≡ (torn ++ take n hand) ++ 10 ∷ (drop (n + 1) hand ++ take room rest) =
     ap (λ hs. (torn ++ hs) ++ take room rest) (cut_at_feed hand n h) ∙ simp append_assoc in
     ap (read_part (nat_le room (length rest))) bytes
-    ∙ part_then (nat_le room (length rest)) (torn ++ take n hand) (drop (n + 1) hand ++ take room rest) (one_line_more torn (take n hand) all h.line)
+    ∙ part_then (nat_le room (length rest)) (torn ++ take n hand) (drop (n + 1) hand ++ take room rest) (torn_more torn (take n hand) all h.line)
 
 -- a piece that came leaves the log as it was
 le_minus : (n room len : ℕ) → n ≤ room → n ≤ len → nat_le (room - n) (len - n) ≡ nat_le room len
@@ -140,13 +137,6 @@ pub piece_told : (name : List ℕ) (place : ℕ) (buf : List ℕ) (answer : Opti
 piece_told name place buf answer None some bound fetched = tt
 piece_told name place buf answer (Some fs) some bound fetched = piece_is (file_of fs name) place buf answer some bound fetched
 
--- a buffer that is the front of a piece
-pub piece_widens : (result : Result ℕ StepRefused) (files : Option (List File)) (name : List ℕ) (place : ℕ) (buf more : List ℕ) → IfOk result (λ n. n ≤ length buf)
-    → IfOk result (λ n. IfSome files (λ fs. PieceComes (bytes_from name place fs) buf n)) → IfOk result (λ n. IfSome files (λ fs. PieceComes (bytes_from name place fs) (buf ++ more) n))
-piece_widens (Err e) files name place buf more bound comes = tt
-piece_widens (Ok n) None name place buf more bound comes = tt
-piece_widens (Ok n) (Some fs) name place buf more bound comes = record { front = take-append-le n buf more bound ∙ comes.front; within = comes.within; none = comes.none }
-
 -- the line at hand, in the piece
 pub line_in : (piece : List ℕ) (at filled n : ℕ) → at + n ≤ filled → take n (drop at (take filled piece)) ≡ take n (drop at piece)
 line_in piece at filled n within =
@@ -175,12 +165,6 @@ line_is_bad (Some fs) name torn hand taken line n after all h none =
     gives_bad_first line (step_of (torn ++ take n hand)) (log_left room (torn ++ hand) rest) (log_left room (drop (n + 1) hand) rest) after none (first_line room torn hand rest n all h)
 
 -- ---- the reader's loop, where files are told
-
--- what is told of files that stayed was told before
-pub told_back : (P : List File → Type 0) (before after : Option (List File)) → FilesStay before after → IfSome after P → IfSome before P
-told_back P None after stay told = tt
-told_back P (Some fs) None stay told = absurd stay
-told_back P (Some fs) (Some gs) stay told = subst P stay told
 
 -- the bytes at hand are part of the line that was torn
 pub log_torn : (files : Option (List File)) (name torn hand both first : List ℕ) (taken start : ℕ) → both ≡ torn ++ hand

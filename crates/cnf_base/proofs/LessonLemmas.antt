@@ -6,7 +6,8 @@ use Rattle.cnf_base.specs.declared.literal.Lit.{Lit}
 use Rattle.cnf_base.specs.Literals.{negation, same_lit, has_lit, plain, negated, Clause}
 use Rattle.cnf_base.specs.Units.{Falsified, OneOpen, open_lits, look_of, look, UnitIn, FalseIn, IsChain, after_chain}
 use Rattle.cnf_base.specs.Lessons.{Along, IsLesson, progress_after, standing, code_on, CodesTell, CodesAreFew, LessonsJoin, ChainsGrow, TwinIsAbsorbed}
-use Rattle.cnf_base.proofs.Closed.{open_all, open_more, unit_all, all_same_as, same_lit-is, same_lit-refl}
+use Rattle.cnf_base.proofs.Closed.{open_all, open_more, unit_all, all_same_as}
+use Rattle.cnf_base.proofs.LitLemmas.{same_lit-refl, same_lit-is, has_lit-negations}
 
 standing_below : (c : Clause) (x : ℕ) → standing c x < 3
 standing_below c x = at (has_lit c (plain x)) (has_lit c (negated x))
@@ -78,7 +79,7 @@ chains_grow cs xs ys (l ∷ ls) sub chain =
     at (inr u) (inr g) = inr (l ∷ g.0, ((chain.0.0, chain.0.1, chain.0.2, chain.0.3, u), g.1), g.2)
 
 -- a chain loses nothing
-chain_keeps : (xs ls : List Lit) (m : Lit) → has_lit xs m ≡ true → has_lit (after_chain xs ls) m ≡ true
+pub chain_keeps : (xs ls : List Lit) (m : Lit) → has_lit xs m ≡ true → has_lit (after_chain xs ls) m ≡ true
 chain_keeps xs [] m h = h
 chain_keeps xs (l ∷ ls) m h = chain_keeps (l ∷ xs) ls m (or_right (same_lit m l) (has_lit xs m) h)
 
@@ -89,14 +90,6 @@ chain_then cs xs (m ∷ ms) l chain u = (chain.0, chain_then cs (m ∷ xs) ms l 
 after_then : (xs ms : List Lit) (l : Lit) → after_chain xs (ms ++ l ∷ []) ≡ l ∷ after_chain xs ms
 after_then xs [] l = refl
 after_then xs (m ∷ ms) l = after_then (m ∷ xs) ms l
-
-negation_in : (others : List Lit) (m : Lit) → has_lit others m ≡ true → has_lit (map negation others) (negation m) ≡ true
-negation_in [] m h = cc
-negation_in (n ∷ ns) m h =
-    elim (or_cases (same_lit m n) (has_lit ns m) h) as (λ _. has_lit (map negation (n ∷ ns)) (negation m) ≡ true) [
-      | inl e ↦ or_left (same_lit (negation m) (negation n)) (has_lit (map negation ns) (negation m)) (ap (λ k. same_lit (negation m) (negation k)) (sym (same_lit-is m n e)) ∙ same_lit-refl (negation m))
-      | inr e ↦ or_right (same_lit (negation m) (negation n)) (has_lit (map negation ns) (negation m)) (negation_in ns m e)
-    ]
 
 -- each literal is false or the one
 narrowed : (g trues others : List Lit) (l : Lit) (c : Clause) → ((m : Lit) → has_lit g m ≡ true → has_lit trues m ≡ true) → ((m : Lit) → has_lit others m ≡ true → has_lit trues (negation m) ≡ true) → list_all (λ m. has_lit g (negation m) || has_lit (l ∷ others) m) c ≡ true → list_all (λ m. has_lit trues (negation m) || same_lit l m) c ≡ true
@@ -132,4 +125,4 @@ twin_is_absorbed before after c ls l others chain e = at (chains_grow cs [] ys l
     at : Grown → (ns : List Lit) × IsChain cs ys ns × ((has_lit (after_chain ys ns) l ≡ true) ⊎ FalseIn cs (after_chain ys ns))
     at (inr g) = (g.0, g.1, inr g.2)
     at (inl g) =
-        closes g.0 g.1 (false_or_unit l (open_lits (after_chain ys g.0) c) (sym (open_all (after_chain ys g.0) (same_lit l) c) ∙ narrowed (after_chain [] ls) (after_chain ys g.0) others l c g.2 (λ m h. chain_keeps ys g.0 (negation m) (negation_in others m h)) e))
+        closes g.0 g.1 (false_or_unit l (open_lits (after_chain ys g.0) c) (sym (open_all (after_chain ys g.0) (same_lit l) c) ∙ narrowed (after_chain [] ls) (after_chain ys g.0) others l c g.2 (λ m h. chain_keeps ys g.0 (negation m) (has_lit-negations others m h)) e))

@@ -3,6 +3,7 @@ use Rattle.std.proofs.Common.{◌≡◌, ℕ, zero, suc, ◌+◌, ◌<◌, ◌�
 use Rattle.std.specs.Prelude.{slice_index_or}
 use Rattle.std.specs.List.{list_any, find}
 use Rattle.std.proofs.lemmas.Bool.{cases_Bool, lt-ltb, le-ltb, ltb-true, ltb-false, eqb-true, eqb-false}
+use Rattle.std.proofs.Math.Bool.{or-false}
 use Rattle.las_base.specs.declared.Axis.{Axis}
 use Rattle.las_base.specs.declared.Axis.TheVariants.{I, J, K}
 use Rattle.las_base.specs.declared.Cell.{Cell}
@@ -19,10 +20,6 @@ use Rattle.cnf_decode.specs.Building.{exists_by, pipe_by, sheet_by, shows_sheet,
 -- ---- the diagram
 
 module _ (v : Values) (s : Size) where
-  or_false : (b : Bool) → (b || false) ≡ b
-  or_false true = refl
-  or_false false = refl
-
   -- the puts, one after another
   pub drawn_in_turn : (d0 d1 d2 d3 d4 : Drawing) → d0 ≡ drawing_of s [] [] → DrawsYCells s (λ c. v (diagram_var s 0 c)) d0 d1 → d1.pipes ≡ d0.pipes
       → DrawsPipes s I (exists_by v s I) (pipe_by v s I) d1 d2 → d2.y_cells ≡ d1.y_cells → DrawsPipes s J (exists_by v s J) (pipe_by v s J) d2 d3 → d3.y_cells ≡ d2.y_cells → DrawsPipes s K (exists_by v s K) (pipe_by v s K) d3 d4 → d4.y_cells ≡ d3.y_cells
@@ -31,7 +28,7 @@ module _ (v : Values) (s : Size) where
     drawn = drawn;
     size = size;
     pipes = pipes;
-    y_cells = λ c. ap (list_any (same_cell c)) (same_k ∙ same_j ∙ same_i) ∙ ys c ∙ ap (λ d. (holds s c && v (diagram_var s 0 c)) || is_y d c) empty ∙ or_false (holds s c && v (diagram_var s 0 c));
+    y_cells = λ c. ap (list_any (same_cell c)) (same_k ∙ same_j ∙ same_i) ∙ ys c ∙ ap (λ d. (holds s c && v (diagram_var s 0 c)) || is_y d c) empty ∙ or-false (holds s c && v (diagram_var s 0 c));
   }
     where
       before : (a : Axis) (c : Cell) → pipe_at d1 a c ≡ None
@@ -107,5 +104,5 @@ module _ (v : Values) (s : Size) where
       by_flow : (b : Bool) → nat_eq f n ≡ b → ((b && shows_sheet v s n x) || (nat_lt f n && shows_sheet v s f x)) ≡ (nat_lt f (suc n) && shows_sheet v s f x)
       by_flow true e =
           let same : f ≡ n = eqb-true f n e in
-          rw (same, lt-ltb n (suc n) (omega arith), le-ltb n n (omega arith)) (or_false (shows_sheet v s n x))
+          rw (same, lt-ltb n (suc n) (omega arith), le-ltb n n (omega arith)) (or-false (shows_sheet v s n x))
       by_flow false e = ap (λ b. b && shows_sheet v s f x) (other e)

@@ -4,6 +4,7 @@ use Rattle.std.specs.List.{AllZip, list_all, flat_map, enumerate_from}
 use Rattle.std.proofs.lemmas.Bool.{and_parts, lt-ltb}
 use Rattle.std.proofs.lemmas.Option.{get_or_from_slice_get, slice_get-get_or, slice_get_within}
 use Rattle.std.proofs.lemmas.List.Folds.{list_all-append}
+use Rattle.std.proofs.Math.Bool.{or-false, and-true}
 use Rattle.las_base.specs.declared.Axis.{Axis}
 use Rattle.las_base.specs.declared.Axis.TheVariants.{I, J, K}
 use Rattle.las_base.specs.declared.Way.{Way}
@@ -25,7 +26,7 @@ use Rattle.cnf_table.specs.Clauses.{absent_colour_clauses, absent_colour_clauses
 use Rattle.cnf_decode.specs.Building.{kind_of_value, exists_by, pipe_by, sheet_by, shows_sheet, IsBuilt, AreBuilt}
 use Rattle.cnf_table.specs.Values.{pipe_passes}
 use Rattle.cnf_table.specs.Shown.{ShowsDiagram, ShowsSheets, AreShown}
-use Rattle.cnf_table.proofs.ListLemmas.{or-false, and-true, list_all-flat_map, all_get}
+use Rattle.cnf_table.proofs.ListLemmas.{list_all-flat_map, all_get}
 use Rattle.cnf_table.proofs.CellLemmas.{all_of}
 use Rattle.cnf_table.proofs.LiteralLemmas.{lit_true-literal}
 use Rattle.cnf_table.specs.Values.{AreValuesOf}

@@ -1,13 +1,14 @@
 -- Cells that pass a test, as a loop over their numbers goes through them.
-use Rattle.std.proofs.Common.{◌≡◌, ◌≢◌, ℕ, suc, ◌+◌, ◌<◌, ◌≤◌, Bool, true, false, cond, ◌&&◌, ◌||◌, nat_lt, nat_eq, Some, ◌⊎◌, inl, inr, refl, sym, ap, ◌∙◌, subst, arith, add-one}
-use Rattle.std.proofs.lemmas.Bool.{cases_Bool, both_ways, ltb-true, ltb-false, lt-ltb, le-ltb}
+use Rattle.std.proofs.Common.{◌≡◌, ◌≢◌, ℕ, suc, ◌+◌, ◌<◌, ◌≤◌, Bool, true, false, cond, ◌&&◌, ◌||◌, nat_lt, nat_eq, Some, refl, sym, ap, ◌∙◌, subst, arith, add-one}
+use Rattle.std.proofs.lemmas.Bool.{both_ways, lt-ltb, le-ltb}
+use Rattle.std.proofs.Math.Bool.{and-false}
 use Rattle.las_base.specs.declared.Axis.{Axis}
 use Rattle.las_base.specs.declared.Cell.{Cell}
 use Rattle.las_base.specs.declared.Size.{Size}
 use Rattle.las_base.specs.Axes.{same_axis}
 use Rattle.las_base.specs.Cells.{holds, volume, index, same_cell}
 use Rattle.las_base.proofs.Same.{same_cell-is, same_cell-refl, same_cell-sym}
-use Rattle.las_base.proofs.Indices.{cell_at, cell_at-index, index_below}
+use Rattle.las_base.proofs.Indices.{cell_at, cell_at-index, index_below, nat_lt-more}
 use Rattle.grid_box.specs.Drawings.{Pipe, Drawing, pipe_at, is_y}
 use Rattle.grid_box.specs.LookUps.{PutsY}
 use Rattle.grid_box.specs.Sheets.{Sheet}
@@ -18,20 +19,9 @@ use Rattle.cnf_decode.specs.Building.{DrawsPipes, DrawsYCells, LaysSheets, is_al
 abbrev pub passed : Size → ℕ → (Cell → Bool) → Cell → Bool
 passed s n test c = holds s c && (nat_lt (index s c) n && test c)
 
-nat_lt-more : (n m : ℕ) → n ≢ m → nat_lt n (suc m) ≡ nat_lt n m
-nat_lt-more n m other = by_test (cases_Bool (nat_lt n m))
-  where
-    by_test : (nat_lt n m ≡ true) ⊎ (nat_lt n m ≡ false) → nat_lt n (suc m) ≡ nat_lt n m
-    by_test (inl t) = let low : n < m = ltb-true n m t in lt-ltb n (suc m) (omega arith) ∙ sym t
-    by_test (inr t) = let high : m ≤ n = ltb-false n m t in le-ltb n (suc m) (omega (arith, other)) ∙ sym t
-
-and_false : (b : Bool) → (b && false) ≡ false
-and_false true = refl
-and_false false = refl
-
 module _ (s : Size) (test : Cell → Bool) where
   pub passed_none : (c : Cell) → passed s 0 test c ≡ false
-  passed_none c = rw (le-ltb (index s c) 0 (omega arith)) (and_false (holds s c))
+  passed_none c = rw (le-ltb (index s c) 0 (omega arith)) (and-false (holds s c))
 
   -- with one number more
   pub passed_more : (n : ℕ) (cell : Cell) → holds s cell ≡ true → index s cell ≡ n → (c : Cell) → passed s (suc n) test c ≡ cond (same_cell cell c) (test cell) (passed s n test c)
@@ -79,7 +69,7 @@ DrawsSome s n axis exist made old new = (a : Axis) (c : Cell) → pipe_at new a 
 
 module _ (s : Size) (axis : Axis) (exist : Cell → Bool) (made : Cell → Pipe) where
   pub no_pipes : (d : Drawing) → DrawsSome s 0 axis exist made d d
-  no_pipes d a c = rw (passed_none s exist c, and_false (same_axis axis a)) refl
+  no_pipes d a c = rw (passed_none s exist c, and-false (same_axis axis a)) refl
 
   pub pipe_put : (n : ℕ) (cell : Cell) (old mid new : Drawing) → exist cell ≡ true → holds s cell ≡ true → index s cell ≡ n → DrawsSome s n axis exist made old mid
       → ((a : Axis) (c : Cell) → pipe_at new a c ≡ cond (same_axis axis a && same_cell cell c) (Some (made cell)) (pipe_at mid a c)) → DrawsSome s (n + 1) axis exist made old new
@@ -129,7 +119,7 @@ LaysSomeSheets s n flow a b test old new =
 
 module _ (s : Size) (flow : ℕ) (a b : Axis) (test : Cell → Bool) where
   pub no_sheets : (d : Surfaces) → LaysSomeSheets s 0 flow a b test d d
-  no_sheets d f x = rw (passed_none s test x.cell, and_false (is_along a b x), and_false (nat_eq f flow)) refl
+  no_sheets d f x = rw (passed_none s test x.cell, and-false (is_along a b x), and-false (nat_eq f flow)) refl
 
   pub sheet_put : (n : ℕ) (cell : Cell) (old mid new : Surfaces) → test cell ≡ true → holds s cell ≡ true → index s cell ≡ n → LaysSomeSheets s n flow a b test old mid → PutsSheet mid new flow (record { axis = a; cell = cell; span = b }) true → LaysSomeSheets s (n + 1) flow a b test old new
   sheet_put n cell old mid new both held at before puts f x =

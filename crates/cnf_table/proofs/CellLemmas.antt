@@ -1,7 +1,6 @@
 -- Tests of the cells of a box, of its inner cells, and of those beyond its far faces.
-use Rattle.std.proofs.Common.{◌≡◌, ◌-◌, ◌<◌, Bool, true, false, cond, ◌&&◌, ◌||◌, not, nat_eq, List, [], ◌∷◌, Option, Some, None, ◌⊎◌, inl, inr, refl, sym, ap, ◌∙◌, arith}
+use Rattle.std.proofs.Common.{◌≡◌, ◌-◌, Bool, true, false, cond, ◌&&◌, ◌||◌, not, nat_eq, List, [], ◌∷◌, Some, None, ◌⊎◌, inl, inr, refl, sym, ap, ◌∙◌, arith}
 use Rattle.std.specs.List.{list_all, list_any}
-use Rattle.std.specs.Option.{option_map_or}
 use Rattle.std.proofs.lemmas.Bool.{and_parts, cases_Bool, eqb-false}
 use Rattle.las_base.specs.declared.Axis.{Axis}
 use Rattle.las_base.specs.declared.Axis.TheVariants.{I, J, K}
@@ -9,21 +8,18 @@ use Rattle.las_base.specs.declared.Way.{Way}
 use Rattle.las_base.specs.declared.Way.TheVariants.{Plus, Minus}
 use Rattle.las_base.specs.declared.Cell.{Cell}
 use Rattle.las_base.specs.declared.Size.{Size}
-use Rattle.las_base.specs.declared.Port.{Port}
 use Rattle.las_base.specs.Cells.{holds, index, cells, coordinate, with_coordinate, above, low_cell, same_cell, widened}
-use Rattle.las_base.specs.Jobs.{Task, is_port_place, port_fits}
+use Rattle.las_base.specs.Jobs.{Task, is_port_place}
 use Rattle.las_base.proofs.Blocks.{all_indexed, all_held}
-use Rattle.las_base.proofs.Indices.{held_parts, held_from, cell_is}
+use Rattle.las_base.proofs.Indices.{cell_is}
 use Rattle.las_base.proofs.Same.{same_cell-is, same_cell-refl, same_test}
+use Rattle.las_base.proofs.Widened.{held_wide}
 use Rattle.grid_box.specs.PipeRules.{◌==>◌, everywhere}
 use Rattle.cnf_table.specs.Positions.{low_of, inner_cells}
 use Rattle.cnf_table.proofs.ListLemmas.{all_get, list_all-filter, list_all-swap, list_all-and, same_where, list_all-true}
 
 pub all_of : (test : Cell → Bool) (s : Size) → list_all test (cells s) ≡ true → (c : Cell) → holds s c ≡ true → test c ≡ true
 all_of test s all c h = all_get test (cells s) (index s c) c all (all_indexed s c h)
-
-pub held_wide : (s : Size) (c : Cell) → holds s c ≡ true → holds (widened s) c ≡ true
-held_wide s c h = let p = held_parts s c h in let i = p.0 in let j = p.1 in let k = p.2 in held_from (widened s) c (omega arith) (omega arith) (omega arith)
 
 -- the cells of a box suffice for a test that passes at each other cell
 pub narrowed : (test : Cell → Bool) (s : Size) → ((c : Cell) → holds s c ≡ false → test c ≡ true) → list_all test (cells s) ≡ list_all test (cells (widened s))
@@ -121,23 +117,3 @@ above_low c a x e = by_zero (nat_eq (coordinate c a) 0) refl e
     by_zero : (b : Bool) → nat_eq (coordinate c a) 0 ≡ b → cond b None (Some (with_coordinate c a (coordinate c a - 1))) ≡ Some x → above a x ≡ c
     by_zero true z f = absurd (cc)
     by_zero false z f = let same : with_coordinate c a (coordinate c a - 1) ≡ x = cc in ap (above a) (sym same) ∙ up a (eqb-false (coordinate c a) 0 z)
-
-held_above : (s : Size) (a : Axis) (x : Cell) → holds s x ≡ true → holds (widened s) (above a x) ≡ true
-held_above s a x h = by_axis a (held_parts s x h)
-  where
-    by_axis : (a : Axis) → (x.i < s.i) × (x.j < s.j) × (x.k < s.k) → holds (widened s) (above a x) ≡ true
-    by_axis I p = let i = p.0 in let j = p.1 in let k = p.2 in held_from (widened s) (above I x) (omega arith) (omega arith) (omega arith)
-    by_axis J p = let i = p.0 in let j = p.1 in let k = p.2 in held_from (widened s) (above J x) (omega arith) (omega arith) (omega arith)
-    by_axis K p = let i = p.0 in let j = p.1 in let k = p.2 in held_from (widened s) (above K x) (omega arith) (omega arith) (omega arith)
-
--- the place of a port that fits is one of the named cells
-pub place_named : (s : Size) (p : Port) → port_fits s p ≡ true → holds (widened s) p.place ≡ true
-place_named s p fits = by_way p.way fits
-  where
-    by_low : (o : Option Cell) → low_cell p.place p.axis Minus ≡ o → option_map_or (holds s) o false ≡ true → holds (widened s) p.place ≡ true
-    by_low None low f = absurd (cc)
-    by_low (Some x) low f = ap (holds (widened s)) (sym (above_low p.place p.axis x low)) ∙ held_above s p.axis x f
-
-    by_way : (w : Way) → option_map_or (holds s) (low_cell p.place p.axis w) false ≡ true → holds (widened s) p.place ≡ true
-    by_way Plus f = held_wide s p.place f
-    by_way Minus f = by_low (low_cell p.place p.axis Minus) refl f

@@ -2,6 +2,7 @@
 use Rattle.std.proofs.Common.{◌≡◌, Bool, true, false, cond, ◌&&◌, ◌||◌, not, nat_eq, List, [], ◌∷◌, map, length, refl, sym, ap, ◌∙◌}
 use Rattle.std.specs.List.{list_all, list_any, filter}
 use Rattle.std.proofs.lemmas.List.Folds.{list_any-append, list_all-append, list_all-map}
+use Rattle.std.proofs.Math.Bool.{or-false, and-true}
 use Rattle.las_base.specs.declared.Axis.{Axis}
 use Rattle.las_base.specs.declared.Axis.TheVariants.{I, J, K}
 use Rattle.las_base.specs.declared.Way.TheVariants.{Plus, Minus}
@@ -18,7 +19,7 @@ use Rattle.cnf_table.specs.Positions.{exists_in, positions_at, is_on, same_posit
 use Rattle.cnf_table.specs.Variables.{diagram_var, pipe_var_at, colour_var_at}
 use Rattle.cnf_table.specs.Clauses.{forbidden_clauses_at, not_both, y_cube_clauses_at, dead_end_clauses_at, three_axes_clauses_at, colour_clauses_at, shared_normal, port_clauses_at}
 use Rattle.cnf_table.proofs.Tables.{by_table, by_pair, agree-is}
-use Rattle.cnf_table.proofs.ListLemmas.{or-false, and-true, list_all-flat_map, list_any-map, list_all-filter, list_all-only_if, or-list_all}
+use Rattle.cnf_table.proofs.ListLemmas.{list_all-flat_map, list_any-map, list_all-filter, list_all-only_if, or-list_all}
 use Rattle.cnf_table.proofs.LiteralLemmas.{signed, lit_true-literal}
 use Rattle.cnf_table.proofs.LinkLemmas.{leg_by}
 
@@ -158,7 +159,7 @@ port_table (J, Plus) h e = by_pair (port_test (J, Plus)) refl h e
 port_table (K, Minus) h e = by_pair (port_test (K, Minus)) refl h e
 port_table (K, Plus) h e = by_pair (port_test (K, Plus)) refl h e
 
-where_exists : (h a b : Bool) → h ≡ true → (not h || agree a b) ≡ true → a ≡ b
+pub where_exists : (h a b : Bool) → h ≡ true → (not h || agree a b) ≡ true → a ≡ b
 where_exists true a b t e = agree-is a b e
 where_exists false a b t e = absurd (cc)
 

@@ -5,33 +5,36 @@ use Rattle.std.specs.Option.{is_some}
 use Rattle.std.proofs.lemmas.Bool.{and_parts, and_from, not-true}
 use Rattle.std.proofs.lemmas.List.{length-map}
 use Rattle.std.proofs.lemmas.List.Folds.{list_all-append, list_all-map}
+use Rattle.std.proofs.Math.Bool.{or-false, and-true}
 use Rattle.las_base.specs.declared.Axis.{Axis}
 use Rattle.las_base.specs.declared.Axis.TheVariants.{I, J, K}
 use Rattle.las_base.specs.declared.Way.TheVariants.{Plus, Minus}
 use Rattle.las_base.specs.declared.Kind.{Kind}
 use Rattle.las_base.specs.declared.Cell.{Cell}
 use Rattle.las_base.specs.declared.Port.{Port}
-use Rattle.las_base.specs.Axes.{axes, same_axis, same_kind, other_kind, next_axis}
+use Rattle.las_base.specs.Axes.{axes, same_axis, same_kind, other_kind, next_axis, kind_by}
 use Rattle.las_base.specs.Cells.{holds, cells, above, same_cell, widened}
 use Rattle.las_base.specs.Jobs.{Task, IsTask, is_port_place, port_fits}
 use Rattle.las_base.proofs.Same.{same_cell-is}
+use Rattle.las_base.proofs.Widened.{held_wide, place_named}
 use Rattle.grid_box.specs.declared.Leg.{Leg}
 use Rattle.grid_box.specs.Drawings.{Drawing, IsDrawing, pipe_at, is_y, Pipe}
 use Rattle.grid_box.specs.Legs.{Position, positions, legs, along, has_leg_along, kind_on, kinds_on, kind_at, end_of_way}
 use Rattle.grid_box.specs.PipeRules.{◌==>◌, IsValid, everywhere, is_only, is_bare, is_port_leg, all_one_kind, stays_along, stays_in_box, has_port_pipe, leaves_forbidden_empty, y_cube_has_one_k_leg, is_no_dead_end, has_no_three_axes, colours_match, port_shows_z}
 use Rattle.grid_box.proofs.StayLemmas.{stays_by_axes}
+use Rattle.grid_box.proofs.LegLemmas.{is_bare-map}
 use Rattle.cnf_base.specs.Literals.{Values, Clause, all_true, clause_true}
 use Rattle.cnf_table.specs.Positions.{is_on, inner_cells, same_position, port_position, low_position}
 use Rattle.cnf_table.specs.Variables.{diagram_var, exist_member, colour_member, pipe_var_at, colour_var_at}
 use Rattle.cnf_table.specs.Clauses.{box_clauses_at, box_clauses, port_clauses_at, port_clauses, forbidden_clauses_at, forbidden_clauses, y_cube_clauses_at, y_cube_clauses, dead_end_clauses_at, dead_end_clauses, three_axes_clauses_at, three_axes_clauses, colour_clauses_at, colour_clauses, port_colour_clause, port_colour_clauses, absent_colour_clauses_at, absent_colour_clauses, diagram_clauses}
 use Rattle.cnf_table.specs.Values.{pipe_passes}
 use Rattle.cnf_table.specs.Shown.{ShowsDiagram}
-use Rattle.cnf_table.proofs.ListLemmas.{or-false, and-true, list_all-flat_map, list_any-map, list_all-swap, list_all-only_if, same_where, all_weaker, list_all-true}
-use Rattle.cnf_table.proofs.CellLemmas.{held_wide, narrowed, inner_suffice, at_places, at_listed, place_named}
+use Rattle.cnf_table.proofs.ListLemmas.{list_all-flat_map, list_any-map, list_all-swap, list_all-only_if, same_where, all_weaker, list_all-true}
+use Rattle.cnf_table.proofs.CellLemmas.{narrowed, inner_suffice, at_places, at_listed}
 use Rattle.cnf_table.proofs.LiteralLemmas.{signed, lit_true-literal}
-use Rattle.cnf_table.proofs.LinkLemmas.{stands, leg_by, kind_by, stands_is, legs_are, pipe_outside, y_outside}
+use Rattle.cnf_table.proofs.LinkLemmas.{stands, leg_by, stands_is, legs_are, pipe_outside, y_outside}
 use Rattle.cnf_table.proofs.CellTables.{has_pipe, y_value, forbidden_cell, y_cube_cell, dead_end_cell, three_axes_cell, colour_cell, port_cell}
-use Rattle.cnf_table.proofs.PlaceLemmas.{is_only-map, is_bare-map, same_way-end, only_there, any_all, inner_same, box_same, one_leg_axes, one_leg_kinds, none_outside}
+use Rattle.cnf_table.proofs.PlaceLemmas.{is_only-map, same_way-end, only_there, any_all, inner_same, box_same, one_leg_axes, one_leg_kinds, none_outside}
 
 stays_or : (i e : Bool) → (not (not i) || not e) ≡ (e ==> i)
 stays_or true true = refl

@@ -1,28 +1,26 @@
 -- The clauses on sheets at one cell and one axis as tests of the pipes that stand there.
 use Rattle.std.proofs.Common.{◌≡◌, ℕ, Bool, true, false, cond, ◌&&◌, ◌||◌, not, List, [], ◌∷◌, ◌++◌, map, refl, sym, ap, ap₂, ◌∙◌}
 use Rattle.std.specs.List.{list_all, list_any, filter, flat_map}
-use Rattle.std.proofs.lemmas.Bool.{and_parts}
 use Rattle.std.proofs.lemmas.List.Folds.{list_any-append, list_all-append, list_all-map}
+use Rattle.std.proofs.lemmas.Simd.{map-map}
+use Rattle.std.proofs.Math.Bool.{or-false}
 use Rattle.las_base.specs.declared.Axis.{Axis}
 use Rattle.las_base.specs.declared.Axis.TheVariants.{I, J, K}
 use Rattle.las_base.specs.declared.Cell.{Cell}
 use Rattle.las_base.specs.declared.Size.{Size}
 use Rattle.las_base.specs.Axes.{third_axis}
+use Rattle.las_base.proofs.Lists.{filter_passes, map_where}
 use Rattle.grid_box.specs.Legs.{Position, positions}
 use Rattle.grid_box.specs.Sheets.{agree, is_odd, all_or_none}
 use Rattle.cnf_base.specs.Literals.{Values, all_true, clause_true}
 use Rattle.cnf_table.specs.Positions.{exists_in, is_on, same_position}
 use Rattle.cnf_table.specs.Variables.{y_literal, pipe_var_at, sheet_var_at}
 use Rattle.cnf_table.specs.Clauses.{even_clauses, legs_along, beside_axis, spread, joint_clauses_on}
-use Rattle.cnf_table.proofs.Tables.{by_pair, agree-is}
-use Rattle.cnf_table.proofs.ListLemmas.{or-false, list_all-flat_map, list_any-map, list_all-filter, list_any-filter, list_all-true, or-list_all, all_weaker}
+use Rattle.cnf_table.proofs.Tables.{by_pair}
+use Rattle.cnf_table.proofs.ListLemmas.{list_all-flat_map, list_any-map, list_all-filter, list_any-filter, or-list_all, all_weaker}
 use Rattle.cnf_table.proofs.ParityLemmas.{parity_law}
 use Rattle.cnf_table.proofs.LiteralLemmas.{lit_true-literal}
-use Rattle.cnf_table.proofs.CellTables.{has_pipe, y_value}
-
-pub map-map : {X Y Z : Type 0} (f : Y → Z) (g : X → Y) (xs : List X) → map f (map g xs) ≡ map (λ x. f (g x)) xs
-map-map f g [] = refl
-map-map f g (x ∷ xs) = ap (λ ys. f (g x) ∷ ys) (map-map f g xs)
+use Rattle.cnf_table.proofs.CellTables.{has_pipe, y_value, where_exists}
 
 eliminated : (hp hq one sp eq sq : Bool) → (not hp || (not hq || (not (not one) || (not sp || (not eq || sq))))) ≡ (one || (not (hp && sp) || (not (hq && eq) || (hq && sq))))
 eliminated false hq true sp eq sq = refl
@@ -34,20 +32,6 @@ eliminated true true true sp eq sq = refl
 eliminated true true false sp eq sq = refl
 
 module _ {X : Type 0} where
-  pub kept : (f : X → Bool) (xs : List X) → list_all f (filter f xs) ≡ true
-  kept f xs = list_all-filter f f xs ∙ (λ i. list_all (λ x. either (f x) i) xs) ∙ list_all-true xs
-    where
-      either : (b : Bool) → (not b || b) ≡ true
-      either true = refl
-      either false = refl
-
-  -- two functions that agree where a test passes
-  pub map_where : {Y : Type 0} (c : X → Bool) (f g : X → Y) (xs : List X) → list_all c xs ≡ true → ((x : X) → c x ≡ true → f x ≡ g x) → map f xs ≡ map g xs
-  map_where c f g [] all same = refl
-  map_where c f g (x ∷ xs) all same =
-      let parts = and_parts (c x) (list_all c xs) all in
-      ap₂ (λ y ys. y ∷ ys) (same x parts.0) (map_where c f g xs parts.1 same)
-
   pub filter-swap : (f g : X → Bool) (xs : List X) → filter f (filter g xs) ≡ filter g (filter f xs)
   filter-swap f g [] = refl
   filter-swap f g (x ∷ xs) = by_tests (f x) refl (g x) refl (filter-swap f g xs)
@@ -93,10 +77,6 @@ spread_table I st sg = by_pair (spread_test I) refl st sg
 spread_table J st sg = by_pair (spread_test J) refl st sg
 spread_table K st sg = by_pair (spread_test K) refl st sg
 
-where_true : (g a b : Bool) → g ≡ true → (not g || agree a b) ≡ true → a ≡ b
-where_true true a b t e = agree-is a b e
-where_true false a b t e = absurd (cc)
-
 module _ (v : Values) (s : Size) (flow : ℕ) (c : Cell) (b : Axis) where
   -- some leg is on the axis, by the values
   abbrev pub along_value : Bool
@@ -135,7 +115,7 @@ module _ (v : Values) (s : Size) (flow : ℕ) (c : Cell) (b : Axis) where
       ∙ ap (λ o. (along_value || y_value v s c) || not o)
       (ap (λ ps. is_odd (map spanning_value ps)) (filter-swap (λ p. not (is_on b p)) (exists_in s c) positions)
       ∙ is_odd-filter spanning_value (exists_in s c) (others b)
-      ∙ ap is_odd (map_where (λ p. not (is_on b p)) (λ p. exists_in s c p && spanning_value p) (λ p. has_pipe v s c p && spanning_value p) (others b) (kept (λ p. not (is_on b p)) positions) off)
+      ∙ ap is_odd (map_where (λ p. not (is_on b p)) (λ p. exists_in s c p && spanning_value p) (λ p. has_pipe v s c p && spanning_value p) (others b) (filter_passes (λ p. not (is_on b p)) positions) off)
       ∙ sym (is_odd-filter spanning_value (has_pipe v s c) (others b)))
     where
       front : clause_true v (legs_along s c b ++ y_literal s c true ∷ []) ≡ (along_value || y_value v s c)
@@ -150,8 +130,8 @@ module _ (v : Values) (s : Size) (flow : ℕ) (c : Cell) (b : Axis) where
       ∙ ap (λ o. along_value || o)
       ((λ i. list_all (λ p. list_all (pair p) (filter (λ q. not (same_position q p)) (swapped i))) (swapped i))
       ∙ pairs_exist same_position (exists_in s c) (λ p. v (pipe_var_at s c p)) beside_value (others b)
-      ∙ where_true (list_all (λ p. not (exists_in s c p && beside_value p) || has_pipe v s c p) (others b)) _ _ implied (spread_table b (has_pipe v s c) (λ p. exists_in s c p && beside_value p))
-      ∙ ap all_or_none (map_where (has_pipe v s c) (λ p. exists_in s c p && beside_value p) beside_value (filter (has_pipe v s c) (others b)) (kept (has_pipe v s c) (others b)) (λ p st. there (exists_in s c p) (v (pipe_var_at s c p)) (beside_value p) st)))
+      ∙ where_exists (list_all (λ p. not (exists_in s c p && beside_value p) || has_pipe v s c p) (others b)) _ _ implied (spread_table b (has_pipe v s c) (λ p. exists_in s c p && beside_value p))
+      ∙ ap all_or_none (map_where (has_pipe v s c) (λ p. exists_in s c p && beside_value p) beside_value (filter (has_pipe v s c) (others b)) (filter_passes (has_pipe v s c) (others b)) (λ p st. there (exists_in s c p) (v (pipe_var_at s c p)) (beside_value p) st)))
     where
       pair : Position → Position → Bool
       pair p q = not (v (sheet_var_at s flow c p (third_axis p.0 b))) || (not (v (pipe_var_at s c q)) || v (sheet_var_at s flow c q (third_axis q.0 b)))
@@ -177,7 +157,7 @@ module _ (v : Values) (s : Size) (flow : ℕ) (c : Cell) (b : Axis) where
 
       implied : list_all (λ p. not (exists_in s c p && beside_value p) || has_pipe v s c p) (others b) ≡ true
       implied =
-          all_weaker (λ p. not (is_on b p)) (λ p. not (exists_in s c p && beside_value p) || has_pipe v s c p) (others b) (λ p o. either (exists_in s c p) (has_pipe v s c p) (beside_value p) (off p o)) (kept (λ p. not (is_on b p)) positions)
+          all_weaker (λ p. not (is_on b p)) (λ p. not (exists_in s c p && beside_value p) || has_pipe v s c p) (others b) (λ p o. either (exists_in s c p) (has_pipe v s c p) (beside_value p) (off p o)) (filter_passes (λ p. not (is_on b p)) positions)
 
   pub joint_on : AreOff spanning_value → AreOff beside_value → all_true v (joint_clauses_on s flow c b)
       ≡ (((along_value || y_value v s c) || not (is_odd (map spanning_value (filter (has_pipe v s c) (others b))))) && (along_value || all_or_none (map beside_value (filter (has_pipe v s c) (others b)))))

@@ -1,15 +1,16 @@
 -- What the values say at a cell, and what the diagram says there.
 use Rattle.std.proofs.Common.{◌≡◌, ℕ, Bool, true, false, cond, ◌&&◌, ◌||◌, List, [], ◌∷◌, map, Option, Some, None, ◌⊎◌, inl, inr, refl, sym, ap, ◌∙◌}
-use Rattle.std.specs.List.{list_all, list_any, filter, filter_map, find, cons_option}
+use Rattle.std.specs.List.{list_all, list_any, filter, filter_map, cons_option}
 use Rattle.std.specs.Option.{option_map, option_and_then, option_map_or, is_some}
 use Rattle.std.proofs.lemmas.Bool.{and_parts, both_ways}
 use Rattle.las_base.specs.declared.Axis.{Axis}
 use Rattle.las_base.specs.declared.Kind.{Kind}
 use Rattle.las_base.specs.declared.Cell.{Cell}
 use Rattle.las_base.specs.declared.Size.{Size}
-use Rattle.las_base.specs.Axes.{same_axis, same_kind}
+use Rattle.las_base.specs.Axes.{same_axis, same_kind, kind_by}
 use Rattle.las_base.specs.Cells.{holds, low_cell, same_cell}
-use Rattle.las_base.proofs.Same.{same_cell-is}
+use Rattle.las_base.proofs.Same.{same_cell-is, kind_by-same}
+use Rattle.las_base.proofs.Lists.{all_found}
 use Rattle.grid_box.specs.declared.Leg.{Leg}
 use Rattle.grid_box.specs.Drawings.{Pipe, Drawing, IsDrawing, pipe_at, is_pipe_at, is_y}
 use Rattle.grid_box.specs.Legs.{Position, PipeEnd, positions, pipe_end_at, pipe_ends, legs, leg_of, kind_at, end_of_way}
@@ -26,32 +27,13 @@ use Rattle.cnf_table.proofs.CellLemmas.{low_case}
 abbrev pub stands : Drawing → Cell → Position → Bool
 stands d c p = is_some (pipe_end_at d c p)
 
--- the kind that a truth value of a colour stands for
-abbrev pub kind_by : Bool → Kind
-kind_by true = Kind.Z
-kind_by false = Kind.X
-
 -- the leg at a position, by whether its colour is Z
 abbrev pub leg_by : (Position → Bool) → Position → Leg
 leg_by z p = record { axis = p.0; which = end_of_way p.1; kind_next = kind_by (z p) }
 
-kind_by-same : (k : Kind) → kind_by (same_kind k Kind.Z) ≡ k
-kind_by-same Kind.X = refl
-kind_by-same Kind.Z = refl
-
 is_some-map : {X Y : Type 0} (f : X → Y) (o : Option X) → is_some (option_map f o) ≡ is_some o
 is_some-map f None = refl
 is_some-map f (Some x) = refl
-
-pub all_found : {X : Type 0} (f g : X → Bool) (xs : List X) (x : X) → list_all f xs ≡ true → find g xs ≡ Some x → f x ≡ true
-all_found f g [] x all e = absurd (cc)
-all_found f g (y ∷ ys) x all e =
-    let p = and_parts (f y) (list_all f ys) all in
-    by_test (g y) e p.0 (all_found f g ys x p.1)
-  where
-    by_test : (b : Bool) → cond b (Some y) (find g ys) ≡ Some x → f y ≡ true → (find g ys ≡ Some x → f x ≡ true) → f x ≡ true
-    by_test true e p later = let same : y ≡ x = cc in ap f (sym same) ∙ p
-    by_test false e p later = later e
 
 none_listed : (g : Cell → Bool) (c : Cell) (xs : List Cell) → list_all g xs ≡ true → g c ≡ false → list_any (same_cell c) xs ≡ false
 none_listed g c [] all out = refl

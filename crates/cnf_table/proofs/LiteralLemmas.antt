@@ -1,8 +1,8 @@
 -- The literals of the table under values.
 use Rattle.std.proofs.Common.{◌≡◌, ℕ, Bool, true, false, not}
 use Rattle.cnf_base.specs.Literals.{Values, lit_true}
+use Rattle.cnf_base.proofs.LitLemmas.{lit_true-plain, lit_true-negated}
 use Rattle.cnf_table.specs.Variables.{literal}
-use Rattle.cnf_table.proofs.ParityLemmas.{lit_true-plain, lit_true-negated}
 
 -- what a literal with this sign says of its variable's value
 abbrev pub signed : Bool → Bool → Bool

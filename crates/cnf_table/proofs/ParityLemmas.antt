@@ -1,24 +1,13 @@
 -- A list of clauses, one against each odd pattern, leaves the even ones.
-use Rattle.std.proofs.Common.{◌≡◌, ℕ, ◌+◌, ◌*◌, ◌/◌, ◌%◌, Bool, true, false, cond, ◌&&◌, ◌||◌, not, List, [], ◌∷◌, ◌++◌, map, length, refl, ap, ap₂, ◌∙◌, arith}
+use Rattle.std.proofs.Common.{◌≡◌, ℕ, Bool, true, false, cond, ◌&&◌, ◌||◌, not, List, [], ◌∷◌, ◌++◌, map, length, refl, ap, ap₂, ◌∙◌, arith}
 use Rattle.std.specs.List.{list_all, filter, flat_map, zip}
 use Rattle.std.proofs.lemmas.List.Folds.{list_any-append}
 use Rattle.std.proofs.lemmas.List.{length-map}
 use Rattle.grid_box.specs.Sheets.{is_odd, agree}
-use Rattle.cnf_base.specs.Literals.{Clause, Values, lit_true, clause_true, all_true, plain, negated}
+use Rattle.cnf_base.specs.Literals.{Clause, Values, lit_true, clause_true, all_true}
+use Rattle.cnf_base.proofs.LitLemmas.{lit_true-plain, lit_true-negated}
 use Rattle.cnf_table.specs.Clauses.{patterns, against}
 use Rattle.cnf_table.specs.Parity.{ParityLaw}
-
-pub lit_true-plain : (v : Values) (x : ℕ) → lit_true v (plain x) ≡ v x
-lit_true-plain v x =
-    let r : (2 * x) % 2 ≡ 0 = omega arith in
-    let q : (2 * x) / 2 ≡ x = omega arith in
-    rw (r, q) refl
-
-pub lit_true-negated : (v : Values) (x : ℕ) → lit_true v (negated x) ≡ not (v x)
-lit_true-negated v x =
-    let r : (2 * x + 1) % 2 ≡ 1 = omega arith in
-    let q : (2 * x + 1) / 2 ≡ x = omega arith in
-    rw (r, q) refl
 
 lit_true-against : (v : Values) (x : ℕ) (b : Bool) → lit_true v (against (x, b)) ≡ not (agree b (v x))
 lit_true-against v x true = lit_true-negated v x

@@ -13,24 +13,21 @@ use Rattle.las_base.specs.Cells.{holds, cells, above}
 use Rattle.las_base.specs.Jobs.{Task, is_port_place}
 use Rattle.las_base.proofs.Blocks.{all_held}
 use Rattle.las_base.proofs.Same.{same_axis-is}
+use Rattle.las_base.proofs.Widened.{held_wide}
 use Rattle.grid_box.specs.declared.Leg.{Leg}
 use Rattle.grid_box.specs.Drawings.{Drawing, IsDrawing, pipe_at}
 use Rattle.grid_box.specs.Legs.{Position, PipeEnd, positions, pipe_end_at, end_of_way, has_leg_along, kinds_on, kind_on}
-use Rattle.grid_box.specs.PipeRules.{is_only, is_bare, same_end, all_one_kind, everywhere, stays_in_box, stays_along}
+use Rattle.grid_box.specs.PipeRules.{is_only, same_end, all_one_kind, everywhere, stays_in_box, stays_along}
 use Rattle.grid_box.proofs.StayLemmas.{stays_by_axes}
 use Rattle.cnf_table.specs.Positions.{low_of, inner_cells, same_position}
 use Rattle.cnf_table.proofs.ListLemmas.{same_where}
-use Rattle.cnf_table.proofs.CellLemmas.{all_of, held_wide, above_low}
+use Rattle.cnf_table.proofs.CellLemmas.{all_of, above_low}
 use Rattle.cnf_table.proofs.LinkLemmas.{stands, end_told, pipe_held}
 
 pub is_only-map : {X Y : Type 0} (f : Y → Bool) (g : X → Y) (xs : List X) → is_only f (map g xs) ≡ is_only (λ x. f (g x)) xs
 is_only-map f g [] = refl
 is_only-map f g (x ∷ []) = refl
 is_only-map f g (x ∷ y ∷ xs) = refl
-
-pub is_bare-map : {X Y : Type 0} (g : X → Y) (xs : List X) → is_bare (map g xs) ≡ is_bare xs
-is_bare-map g [] = refl
-is_bare-map g (x ∷ xs) = refl
 
 same_way-is : (w x : Way) → same_way w x ≡ true → w ≡ x
 same_way-is Plus Plus e = refl

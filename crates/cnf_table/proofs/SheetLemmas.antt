@@ -4,6 +4,7 @@ use Rattle.std.specs.List.{list_all, list_any, filter, flat_map, zip}
 use Rattle.std.specs.Option.{is_some, option_map_or}
 use Rattle.std.proofs.lemmas.Bool.{and_parts, and_from, not-true, or_parts, cases_Bool}
 use Rattle.std.proofs.lemmas.List.Folds.{list_all-append, list_all-map}
+use Rattle.std.proofs.Math.Bool.{or-false, and-true}
 use Rattle.las_base.specs.declared.Axis.{Axis}
 use Rattle.las_base.specs.declared.Axis.TheVariants.{I, J, K}
 use Rattle.las_base.specs.declared.Kind.{Kind}
@@ -13,6 +14,8 @@ use Rattle.las_base.specs.declared.Port.{Port}
 use Rattle.las_base.specs.Axes.{axes, same_axis, third_axis, has_part}
 use Rattle.las_base.specs.Cells.{holds, cells, widened}
 use Rattle.las_base.specs.Jobs.{Task, IsTask, is_port_place}
+use Rattle.las_base.proofs.Widened.{held_wide}
+use Rattle.las_base.proofs.Lists.{map_where, filter_passes}
 use Rattle.grid_box.specs.Drawings.{Drawing, IsDrawing, Pipe, pipe_at, is_y}
 use Rattle.grid_box.specs.Legs.{Position, PipeEnd, positions, pipe_end_at, pipe_ends, legs, leg_of, along, has_leg_along}
 use Rattle.grid_box.specs.PipeRules.{◌==>◌, everywhere, is_only, stays_in_box, has_port_pipe, y_cube_has_one_k_leg}
@@ -24,12 +27,12 @@ use Rattle.cnf_table.specs.Variables.{diagram_var, sheet_var, exist_member, shee
 use Rattle.cnf_table.specs.Clauses.{absent_sheet_clauses_at, absent_sheet_clauses, letter_clauses_at, letter_clauses, y_sheet_clauses_at, y_sheet_clauses, joint_clauses_on, joint_clauses_at, joint_clauses, flow_clauses}
 use Rattle.cnf_table.specs.Values.{pipe_passes}
 use Rattle.cnf_table.specs.Shown.{ShowsDiagram, ShowsSheets}
-use Rattle.cnf_table.proofs.ListLemmas.{or-false, and-true, list_all-flat_map, list_all-filter, list_all-true, same_where, list_all-and, or-list_all}
-use Rattle.cnf_table.proofs.CellLemmas.{all_of, held_wide, at_places}
+use Rattle.cnf_table.proofs.ListLemmas.{list_all-flat_map, list_all-filter, list_all-true, same_where, list_all-and, or-list_all}
+use Rattle.cnf_table.proofs.CellLemmas.{all_of, at_places}
 use Rattle.cnf_table.proofs.LiteralLemmas.{signed, lit_true-literal}
 use Rattle.cnf_table.proofs.LinkLemmas.{stands, end_told, ends_are, stands_is, span_is, sheet_stands}
 use Rattle.cnf_table.proofs.CellTables.{has_pipe, y_value}
-use Rattle.cnf_table.proofs.JointTables.{map_where, kept, filter-swap, others, along_value, along_is, joint_on}
+use Rattle.cnf_table.proofs.JointTables.{filter-swap, others, along_value, along_is, joint_on}
 use Rattle.cnf_table.proofs.PlaceLemmas.{filter_keeps, box_same}
 use Rattle.cnf_table.proofs.DiagramLemmas.{same_stands, places_named, each_port, at_port, inner_rule, port_passes, only_k, has_along}
 
@@ -172,7 +175,7 @@ module _ (t : Task) (d : Drawing) (v : Values) (task : IsTask t) (drawn : IsDraw
         alone = (at_port t d v task drawn size shows stays ports x.0.place x.0 parts.0).0
 
         there : stands d x.0.place (port_position x.0) ≡ true
-        there = (and_parts (stands d x.0.place (port_position x.0)) true (ap (list_all (stands d x.0.place)) (sym alone) ∙ kept (stands d x.0.place) positions)).0
+        there = (and_parts (stands d x.0.place (port_position x.0)) true (ap (list_all (stands d x.0.place)) (sym alone) ∙ filter_passes (stands d x.0.place) positions)).0
 
         spelled : port_spells x.0.place x ≡ (agree (v (sheet_var_at t.size flow x.0.place (port_position x.0) x.0.z_axis)) (has_part Kind.Z x.1) && agree (v (sheet_var_at t.size flow x.0.place (port_position x.0) (third_axis x.0.axis x.0.z_axis))) (has_part Kind.X x.1))
         spelled =
@@ -226,14 +229,14 @@ module _ (t : Task) (d : Drawing) (v : Values) (task : IsTask t) (drawn : IsDraw
           left =
               ap (list_all (matched c)) (filter-swap (is_on K) (exists_in t.size c) positions)
               ∙ list_all-filter (matched c) (exists_in t.size c) (filter (is_on K) positions)
-              ∙ same_where (is_on K) (λ p. not (exists_in t.size c p) || matched c p) (λ p. not (has_pipe v t.size c p) || matched c p) (filter (is_on K) positions) (kept (is_on K) positions) exist
+              ∙ same_where (is_on K) (λ p. not (exists_in t.size c p) || matched c p) (λ p. not (has_pipe v t.size c p) || matched c p) (filter (is_on K) positions) (filter_passes (is_on K) positions) exist
               ∙ sym (list_all-filter (matched c) (has_pipe v t.size c) (filter (is_on K) positions))
               ∙ ap (list_all (matched c)) (filter-swap (has_pipe v t.size c) (is_on K) positions ∙ ap (filter (is_on K)) (same_stands t d v task drawn size shows c ∙ alone))
               ∙ ap (λ b. list_all (matched c) (cond b (q ∷ []) [])) k
               ∙ and-true (matched c q)
 
           there : stands d c q ≡ true
-          there = (and_parts (stands d c q) true (ap (list_all (stands d c)) (sym alone) ∙ kept (stands d c) positions)).0
+          there = (and_parts (stands d c q) true (ap (list_all (stands d c)) (sym alone) ∙ filter_passes (stands d c) positions)).0
 
           right : list_all (λ e. agree (spans ss e.pipe I) (spans ss e.pipe J)) (pipe_ends d c) ≡ matched c q
           right =
@@ -285,7 +288,7 @@ module _ (t : Task) (d : Drawing) (v : Values) (task : IsTask t) (drawn : IsDraw
       beside_told c b f g none same =
           ends_told d c false f
           ∙ ap (map (told_at d c false f)) (sym (filter-swap (stands d c) (λ p. not (is_on b p)) positions ∙ none_dropped (is_on b) (filter (stands d c) positions) (sym (has_along t d v task drawn size shows c b) ∙ none)))
-          ∙ map_where (λ p. stands d c p && not (is_on b p)) (told_at d c false f) g (filter (stands d c) (others b)) (filter_keeps (stands d c) (λ p. not (is_on b p)) (others b) (kept (λ p. not (is_on b p)) positions))
+          ∙ map_where (λ p. stands d c p && not (is_on b p)) (told_at d c false f) g (filter (stands d c) (others b)) (filter_keeps (stands d c) (λ p. not (is_on b p)) (others b) (filter_passes (λ p. not (is_on b p)) positions))
           (λ p both.
           let parts = and_parts (stands d c p) (not (is_on b p)) both in
           told_is d c false (g p) f p parts.0 (λ e is. same p e is (not-true (is_on b p) parts.1)))

@@ -13,6 +13,7 @@ use Rattle.las_base.specs.Axes.{same_axis, same_kind}
 use Rattle.las_base.specs.Cells.{holds, index, cells, volume}
 use Rattle.las_base.proofs.Blocks.{all_indexed, all_cells, slice_get-left, slice_get-right}
 use Rattle.las_base.proofs.Indices.{index_below}
+use Rattle.las_base.proofs.Lists.{all_found}
 use Rattle.grid_box.specs.Drawings.{Pipe, Drawing, IsDrawing, pipe_at, is_pipe_at, is_y, has_lawful_kinds}
 use Rattle.grid_box.specs.Legs.{kind_at, end_of_way}
 use Rattle.grid_box.specs.Sheets.{Sheet, spans}
@@ -21,7 +22,6 @@ use Rattle.cnf_base.specs.Literals.{values_of}
 use Rattle.cnf_table.specs.Variables.{diagram_var, exist_member, colour_member, sheet_member}
 use Rattle.cnf_table.specs.Values.{pipe_passes, members, sheet_members, values}
 use Rattle.cnf_table.specs.Shown.{ShowsDiagram, ShowsSheets}
-use Rattle.cnf_table.proofs.LinkLemmas.{all_found}
 
 module _ {X A : Type 0} (f : X → List A) (w : ℕ) (wide : (x : X) → length (f x) ≡ w) where
   -- the element at a row and a column, where the rows come from a list

@@ -1,6 +1,7 @@
 -- Lists of kinds that are one kind.
 use Rattle.std.proofs.Common.{◌≡◌, Bool, true, false, cond, not, ◌&&◌, ◌||◌, List, [], ◌∷◌, map, refl, sym, ap, ◌∙◌}
 use Rattle.std.specs.List.{list_all, filter}
+use Rattle.std.proofs.Math.Bool.{or-false}
 use Rattle.las_base.specs.declared.Axis.{Axis}
 use Rattle.las_base.specs.declared.Kind.{Kind}
 use Rattle.las_base.specs.Axes.{same_kind}
@@ -8,13 +9,9 @@ use Rattle.grid_box.specs.declared.Leg.{Leg}
 use Rattle.grid_box.specs.Legs.{along, kind_on, kinds_on}
 use Rattle.grid_box.specs.PipeRules.{all_kind, all_one_kind}
 
-or_false : (b : Bool) → (b || false) ≡ b
-or_false true = refl
-or_false false = refl
-
 x_or_z : (ks : List Kind) → all_one_kind ks ≡ (all_kind Kind.X ks || all_kind Kind.Z ks)
 x_or_z [] = refl
-x_or_z (Kind.X ∷ ks) = sym (or_false (all_kind Kind.X ks))
+x_or_z (Kind.X ∷ ks) = sym (or-false (all_kind Kind.X ks))
 x_or_z (Kind.Z ∷ ks) = refl
 
 of_legs : (a : Axis) (k : Kind) (ls : List Leg) → all_kind k (kinds_on a ls) ≡ list_all (λ l. along a l || same_kind k (kind_on l a)) ls

@@ -8,6 +8,7 @@ use Rattle.cnf_base.specs.declared.literal.Var.{Var}
 use Rattle.cnf_base.specs.Literals.{variable, negation, has_lit}
 use Rattle.cnf_base.specs.Lessons.{are_distinct}
 use Rattle.cnf_base.specs.Logs.{distinct_vars}
+use Rattle.cnf_base.proofs.LitLemmas.{variable-negation, has_lit-here, has_lit-later, has_lit-cases}
 use Rattle.clause_arena.specs.Clauses.{Live, lits_of}
 use Rattle.conflict_learn.specs.declared.draft.Draft.{Draft}
 use Rattle.conflict_learn.specs.Paths.{Path, IsPath}
@@ -16,8 +17,8 @@ use Rattle.conflict_learn.specs.Tallies.{is_open, stays}
 use Rattle.conflict_learn.specs.Drafts.{Tallies, HasVar, ListsMarked, TakesIn, Resolves, HasFirst}
 use Rattle.conflict_learn.specs.Asserting.{HeadsWith}
 use Rattle.conflict_learn.specs.Meets.{vars_of, numbers_of, is_met, IsAboveRoot, IsBrought, AreReached, IsResolved, Meets, MeetsBehind, IsOpenVar, MeetsPresent}
-use Rattle.conflict_learn.proofs.LitLemmas.{variable-negation, has_lit-here, has_lit-later, has_lit-cases}
 use Rattle.conflict_learn.proofs.ResolveLemmas.{stays_not_open, stays_not_fixed}
+use Rattle.conflict_learn.proofs.LevelLemmas.{open_is_level, level_is_open}
 
 -- one more variable, or more of them, at the end
 met_behind : (xs ys : List Var) (v : ℕ) → is_met (xs ++ ys) v ≡ true → (is_met xs v ≡ true) ⊎ (is_met ys v ≡ true)
@@ -94,16 +95,6 @@ vars_distinct [] d = refl
 vars_distinct (m ∷ ms) d =
     let parts = and_parts (not (list_any (λ l. nat_eq (variable m) (variable l)) ms)) (distinct_vars ms) d in
     and_from (not (list_any (nat_eq (variable m)) (numbers_of (vars_of ms)))) (are_distinct (numbers_of (vars_of ms))) (ap not (numbers_any ms (variable m)) ∙ parts.0) (vars_distinct ms parts.1)
-
--- an open level is that in work, and above 0
-open_is : (level v : ℕ) → is_open level v ≡ true → (v ≡ level) × (0 < v)
-open_is level v h =
-    let parts = and_parts (not (nat_eq v 0)) (nat_eq v level) h in
-    let ne : v ≡ 0 → ⊥ = eqb-false v 0 (not-true (nat_eq v 0) parts.0) in
-    (eqb-true v level parts.1, omega arith)
-
-open_from : (level v : ℕ) → v ≡ level → 0 < v → is_open level v ≡ true
-open_from level v e pos = and_from (not (nat_eq v 0)) (nat_eq v level) (not_from_false (nat_eq v 0) (ne_eqb v 0 (λ z. omega arith))) (eq-eqb v level e)
 
 -- the variable is of the level in work, and its place is not before this one
 pub record IsOpenFrom (p : Path) (level place v : ℕ) : Type 0 where
@@ -241,7 +232,7 @@ module _ (vars : ℕ) (p : Path) (cs : List Live) (begins : ℕ → Type 0) (lev
         let one : o.spot ≡ j = path.apart o.spot j o.within w.0 o.is in
         record {
           within = w.0;
-          present = ap p.level (sym one) ∙ (open_is level (p.level o.spot) o.present).0;
+          present = ap p.level (sym one) ∙ (open_is_level level (p.level o.spot) o.present).0;
           among = met_kept met (x ∷ []) (variable (p.lit j)) w.1;
           other = λ e. fresh (variable (p.lit j)) w.1 (ap variable (is ∙ sym e));
         }
@@ -330,7 +321,7 @@ module _ (vars : ℕ) (p : Path) (cs : List Live) (conflict level : ℕ) (clear 
     where
       at : (p.level k ≡ d.level) ⊎ (p.level k ≡ d.level → ⊥) → is_met (met ++ vars_of d.lits.items) (variable (p.lit k)) ≡ true
       at (inl e) =
-          let same : k ≡ one.place = one.alone k lt h (open_from d.level (p.level k) e pos) in
+          let same : k ≡ one.place = one.alone k lt h (level_is_open d.level (p.level k) e pos) in
           let is : variable (p.lit k) ≡ variable first = ap (λ i. variable (p.lit i)) same ∙ ap variable one.is ∙ variable-negation first in
           met_kept met (vars_of d.lits.items) (variable (p.lit k)) (ap (is_met met) is ∙ present.left)
       at (inr ne) =
@@ -356,7 +347,7 @@ module _ (vars : ℕ) (p : Path) (cs : List Live) (conflict level : ℕ) (clear 
     present = r.present ∙ sym level_is;
     among = elim (met_behind met (vars_of d.lits.items) (variable (p.lit k)) r.among) as (λ _. is_met met (variable (p.lit k)) ≡ true) [
       | inl m ↦ m
-      | inr m ↦ absurd (no_open (variable (p.lit k)) m k r.within refl (open_from d.level (p.level k) (r.present ∙ sym level_is) pos))
+      | inr m ↦ absurd (no_open (variable (p.lit k)) m k r.within refl (level_is_open d.level (p.level k) (r.present ∙ sym level_is) pos))
     ];
     other = r.other;
   }
@@ -366,13 +357,13 @@ module _ (vars : ℕ) (p : Path) (cs : List Live) (conflict level : ℕ) (clear 
 
   -- the level in work is above 0, since the literal that is left is of it
   deep : 0 < level
-  deep = let o = open_is d.level (p.level one.place) one.present_there in let pos : 0 < p.level one.place = o.1 in let e : p.level one.place ≡ d.level = o.0 in omega arith
+  deep = let o = open_is_level d.level (p.level one.place) one.present_there in let pos : 0 < p.level one.place = o.1 in let e : p.level one.place ≡ d.level = o.0 in omega arith
 
   pub meets_all : Meets p cs conflict level first (met ++ vars_of d.lits.items)
   meets_all = record {
     once = distinct_both met (vars_of d.lits.items) present.once (vars_distinct d.lits.items present.listed.apart) apart;
     above = λ v h. elim (met_behind met (vars_of d.lits.items) v h) as (λ _. IsAboveRoot p v) [
-      | inl m ↦ (let o = present.stand v m in record { place = o.place; within = o.within; is = o.is; positive = (open_is d.level (p.level o.place) o.present).1 })
+      | inl m ↦ (let o = present.stand v m in record { place = o.place; within = o.within; is = o.is; positive = (open_is_level d.level (p.level o.place) o.present).1 })
       | inr m ↦ (let s = between v m in record { place = s.0; within = s.1; is = s.2; positive = (let ne : p.level s.0 ≡ 0 → ⊥ = eqb-false (p.level s.0) 0 (stays_not_fixed d.level (p.level s.0) s.3) in omega arith) })
     ];
     reached = record {

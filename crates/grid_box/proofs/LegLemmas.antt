@@ -14,6 +14,7 @@ use Rattle.las_base.proofs.Same.{same_axis-is, same_cell-is}
 use Rattle.grid_box.specs.declared.Leg.{Leg}
 use Rattle.grid_box.specs.Drawings.{Pipe, Drawing, is_pipe_at, pipe_at, kinds_at}
 use Rattle.grid_box.specs.Legs.{Position, pipe_end_at, leg_of}
+use Rattle.grid_box.specs.PipeRules.{is_bare}
 
 found_passes : {X : Type 0} (test : X → Bool) (xs : List X) (x : X) → find test xs ≡ Some x → test x ≡ true
 found_passes test [] x e = absurd (cc)
@@ -90,3 +91,7 @@ leg_pushed d c ps n x found leg low is before =
 pub leg_passed : (d : Drawing) (c : Cell) (ps : List Position) (n : ℕ) (x : Position) (found : List Leg) → n < length ps → leg_in d c (get_or ps n x) ≡ None → found ≡ filter_map (leg_in d c) (take n ps) → found ≡ filter_map (leg_in d c) (take (n + 1) ps)
 leg_passed d c ps n x found low is before =
     rw add-one (before ∙ sym (append-nil (filter_map (leg_in d c) (take n ps))) ∙ ap (λ o. filter_map (leg_in d c) (take n ps) ++ option_to_list o) (sym is) ∙ sym (one_more (leg_in d c) ps n x low))
+
+pub is_bare-map : {X Y : Type 0} (g : X → Y) (xs : List X) → is_bare (map g xs) ≡ is_bare xs
+is_bare-map g [] = refl
+is_bare-map g (x ∷ xs) = refl

@@ -3,6 +3,7 @@ use Rattle.std.proofs.Common.{◌≡◌, Bool, true, false, cond, ◌&&◌, ◌|
 use Rattle.std.specs.List.{find, filter, list_any, cons_option}
 use Rattle.std.specs.Option.{option_or}
 use Rattle.std.proofs.lemmas.List.Folds.{find-append}
+use Rattle.std.proofs.Math.Bool.{and-false}
 use Rattle.las_base.specs.declared.Axis.{Axis}
 use Rattle.las_base.specs.declared.Axis.TheVariants.{I, J, K}
 use Rattle.las_base.specs.declared.Kind.{Kind}
@@ -70,11 +71,7 @@ any-filter y c (x ∷ xs) = at (same_cell c x) refl (y x) refl (any-filter y c x
     at : (t : Bool) → same_cell c x ≡ t → (b : Bool) → y x ≡ b → list_any (same_cell c) (filter y xs) ≡ (list_any (same_cell c) xs && y c)
         → list_any (same_cell c) (cond b (x ∷ filter y xs) (filter y xs)) ≡ ((same_cell c x || list_any (same_cell c) xs) && y c)
     at true t true e ih = let y_is : y c ≡ true = ap y (same_cell-is c x t) ∙ e in rw (t, y_is) refl
-    at true t false e ih = let y_is : y c ≡ false = ap y (same_cell-is c x t) ∙ e in rw t (ih ∙ rw y_is (and_false (list_any (same_cell c) xs)))
-      where
-        and_false : (b : Bool) → (b && false) ≡ false
-        and_false true = refl
-        and_false false = refl
+    at true t false e ih = let y_is : y c ≡ false = ap y (same_cell-is c x t) ∙ e in rw t (ih ∙ rw y_is (and-false (list_any (same_cell c) xs)))
     at false t true e ih = rw t ih
     at false t false e ih = rw t ih
 

@@ -3,7 +3,8 @@ use Rattle.std.proofs.Common.{◌≡◌, ◌≢◌, ℕ, suc, Bool, true, false,
 use Rattle.std.specs.List.{list_any, list_all, filter, flat_map, All}
 use Rattle.std.proofs.lemmas.Bool.{and_parts, and_from, or_left, or_right, not_from_false, false_from_ne_true}
 use Rattle.std.proofs.lemmas.List.Elements.{All-map}
-use Rattle.std.proofs.lemmas.List.Folds.{list_any-append}
+use Rattle.std.proofs.lemmas.List.Folds.{list_any-append, list_all-map}
+use Rattle.std.proofs.Math.Bool.{or-false, and-false}
 use Rattle.las_base.specs.declared.Axis.{Axis}
 use Rattle.las_base.specs.declared.Axis.TheVariants.{I, J, K}
 use Rattle.las_base.specs.declared.Cell.{Cell}
@@ -11,7 +12,7 @@ use Rattle.las_base.specs.declared.Size.{Size}
 use Rattle.las_base.specs.Axes.{same_axis}
 use Rattle.las_base.specs.Cells.{same_cell, cells, holds, numbers_from}
 use Rattle.las_base.proofs.Same.{same_cell-is, same_cell-refl, same_axis-is, same_axis-refl, listed_is_held}
-use Rattle.grid_box.specs.Sheets.{Sheet, same_sheet}
+use Rattle.grid_box.specs.Sheets.{Sheet, same_sheet, agree, all_or_none}
 use Rattle.grid_box.specs.Surfaces.{sheet_axes, all_sheets, has_sheet, sheets_by, AreInOrder, SheetsTell}
 
 -- ---- tests of equality
@@ -45,22 +46,18 @@ module _ (x : Sheet) (cs : List Cell) where
   abbrev has_axes : Axis × Axis → Bool
   has_axes a = same_axis x.axis a.0 && same_axis x.span a.1
 
-  and_false : (b : Bool) → (b && false) ≡ false
-  and_false true = refl
-  and_false false = refl
-
   and_true : (b : Bool) → (b && true) ≡ b
   and_true true = refl
   and_true false = refl
 
   of_pair : (a b : Axis) (ds : List Cell) → has_sheet (map (λ c. record { axis = a; cell = c; span = b }) ds) x ≡ ((same_axis x.axis a && same_axis x.span b) && list_any (same_cell x.cell) ds)
-  of_pair a b [] = sym (and_false (same_axis x.axis a && same_axis x.span b))
+  of_pair a b [] = sym (and-false (same_axis x.axis a && same_axis x.span b))
   of_pair a b (d ∷ ds) = at (same_axis x.axis a) (same_axis x.span b) (of_pair a b ds)
     where
       at : (t u : Bool) → has_sheet (map (λ c. record { axis = a; cell = c; span = b }) ds) x ≡ ((t && u) && list_any (same_cell x.cell) ds)
           → ((t && (same_cell x.cell d && u)) || has_sheet (map (λ c. record { axis = a; cell = c; span = b }) ds) x) ≡ ((t && u) && (same_cell x.cell d || list_any (same_cell x.cell) ds))
       at true true ih = rw (and_true (same_cell x.cell d)) (ap (λ r. same_cell x.cell d || r) ih)
-      at true false ih = rw (and_false (same_cell x.cell d)) ih
+      at true false ih = rw (and-false (same_cell x.cell d)) ih
       at false u ih = ih
 
   of_pairs : (ps : List (Axis × Axis)) → has_sheet (flat_map with_axes ps) x ≡ (list_any has_axes ps && list_any (same_cell x.cell) cs)
@@ -73,7 +70,7 @@ module _ (x : Sheet) (cs : List Cell) where
     where
       either : (p q c : Bool) → ((p && c) || (q && c)) ≡ ((p || q) && c)
       either true q true = refl
-      either true q false = and_false q
+      either true q false = and-false q
       either false q c = refl
 
   two_axes : (a b : Axis) → list_any (λ p. same_axis a p.0 && same_axis b p.1) sheet_axes ≡ not (same_axis a b)
@@ -167,3 +164,12 @@ lists_tell s (x ∷ xs) (y ∷ ys) p q long same =
 pub sheets_tell : SheetsTell
 sheets_tell s t p q size long same u =
     record { size = size u; flows = lists_tell t.size s.flows t.flows (subst (λ b. All (AreInOrder b) s.flows) size p.order) q.order long same u }
+
+-- all or none: all pass a test, or none does
+pub all_or_no : {X : Type 0} (f : X → Bool) (xs : List X) → all_or_none (map f xs) ≡ (list_all f xs || list_all (λ x. not (f x)) xs)
+all_or_no f [] = refl
+all_or_no f (x ∷ xs) = by_first (f x)
+  where
+    by_first : (b : Bool) → list_all (agree b) (map f xs) ≡ ((b && list_all f xs) || (not b && list_all (λ x. not (f x)) xs))
+    by_first true = list_all-map (agree true) f xs ∙ sym (or-false (list_all f xs))
+    by_first false = list_all-map (agree false) f xs

@@ -1,7 +1,7 @@
 -- Cells and their indices.
-use Rattle.std.proofs.Common.{◌≡◌, ℕ, zero, suc, ◌+◌, ◌*◌, ◌/◌, ◌%◌, ◌<◌, true, ◌&&◌, nat_lt, Some, slice_get, ap, ◌∙◌, subst, arith}
+use Rattle.std.proofs.Common.{◌≡◌, ℕ, zero, suc, ◌+◌, ◌*◌, ◌/◌, ◌%◌, ◌<◌, true, ◌&&◌, nat_lt, Some, slice_get, ap, ◌∙◌, subst, arith, ◌≢◌, false, ◌⊎◌, inl, inr, sym, ◌≤◌}
 use Rattle.std.proofs.lemmas.Nat.{div-mul-add, mod-mul-add, div-add-mod', div_below, mod_below, mul-add-lt}
-use Rattle.std.proofs.lemmas.Bool.{and_parts, and_from, ltb-true, lt-ltb}
+use Rattle.std.proofs.lemmas.Bool.{and_parts, and_from, ltb-true, lt-ltb, cases_Bool, ltb-false, le-ltb}
 use Rattle.las_base.specs.declared.Cell.{Cell}
 use Rattle.las_base.specs.declared.Size.{Size}
 use Rattle.las_base.specs.Cells.{holds, cells, volume, index}
@@ -60,3 +60,11 @@ cell_at_held s n h =
 -- the cell with an index below the volume stands there in the list of cells
 pub listed_at : (s : Size) (n : ℕ) → n < volume s → slice_get (cells s) n ≡ Some (cell_at s n)
 listed_at s n h = subst (λ k. slice_get (cells s) k ≡ Some (cell_at s n)) (index-cell_at s n) (all_indexed s (cell_at s n) (cell_at_held s n h))
+
+-- below one more, for another number
+pub nat_lt-more : (n m : ℕ) → n ≢ m → nat_lt n (suc m) ≡ nat_lt n m
+nat_lt-more n m other = by_test (cases_Bool (nat_lt n m))
+  where
+    by_test : (nat_lt n m ≡ true) ⊎ (nat_lt n m ≡ false) → nat_lt n (suc m) ≡ nat_lt n m
+    by_test (inl t) = let low : n < m = ltb-true n m t in lt-ltb n (suc m) (omega arith) ∙ sym t
+    by_test (inr t) = let high : m ≤ n = ltb-false n m t in le-ltb n (suc m) (omega (arith, other)) ∙ sym t

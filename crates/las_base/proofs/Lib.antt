@@ -3,3 +3,5 @@ pub mod Rising
 pub mod Indices
 pub mod Same
 pub mod Sides
+pub mod Lists
+pub mod Widened

@@ -1,14 +1,15 @@
 -- Tests of equality on cells and axes decide it.
-use Rattle.std.proofs.Common.{◌≡◌, ℕ, zero, suc, Bool, true, false, ◌&&◌, ◌||◌, nat_eq, not, List, [], ◌∷◌, Some, slice_get, ◌⊎◌, inl, inr, refl, sym, ◌∙◌}
+use Rattle.std.proofs.Common.{◌≡◌, ℕ, zero, suc, Bool, true, false, ◌&&◌, ◌||◌, nat_eq, not, List, [], ◌∷◌, Some, slice_get, ◌⊎◌, inl, inr, refl, sym, ◌∙◌, ap}
 use Rattle.std.specs.List.{list_all, list_any}
 use Rattle.std.proofs.lemmas.Bool.{and_parts, cases_Bool, eqb-true, eq-eqb, both_ways}
 use Rattle.las_base.specs.declared.Axis.{Axis}
 use Rattle.las_base.specs.declared.Axis.TheVariants.{I, J, K}
 use Rattle.las_base.specs.declared.Cell.{Cell}
 use Rattle.las_base.specs.declared.Size.{Size}
-use Rattle.las_base.specs.Axes.{same_axis}
+use Rattle.las_base.specs.Axes.{same_axis, kind_by, same_kind}
 use Rattle.las_base.specs.Cells.{same_cell, same_size, holds, cells, index}
 use Rattle.las_base.proofs.Blocks.{all_indexed, all_held}
+use Rattle.las_base.specs.declared.Kind.{Kind}
 
 pub same_cell-is : (x y : Cell) → same_cell x y ≡ true → x ≡ y
 same_cell-is x y e =
@@ -31,6 +32,11 @@ same_size-is s t e =
     let ek : s.k ≡ t.k = eqb-true s.k t.k q.1 in
     λ x. record { i = ei x; j = ej x; k = ek x }
 
+pub same_sides : (s t : Size) → s.i ≡ t.i → s.j ≡ t.j → s.k ≡ t.k → s ≡ t
+same_sides s t ei ej ek =
+    let make : ℕ → ℕ → ℕ → Size = λ i j k. record { i = i; j = j; k = k } in
+    ap (λ i. make i s.j s.k) ei ∙ ap (λ j. make t.i j s.k) ej ∙ ap (λ k. make t.i t.j k) ek
+
 pub same_size-refl : (s : Size) → same_size s s ≡ true
 same_size-refl s = rw (eq-eqb s.i s.i refl, eq-eqb s.j s.j refl, eq-eqb s.k s.k refl) refl
 
@@ -49,6 +55,10 @@ pub same_axis-refl : (a : Axis) → same_axis a a ≡ true
 same_axis-refl I = refl
 same_axis-refl J = refl
 same_axis-refl K = refl
+
+pub kind_by-same : (k : Kind) → kind_by (same_kind k Kind.Z) ≡ k
+kind_by-same Kind.X = refl
+kind_by-same Kind.Z = refl
 
 -- a test that follows from another and gives it is the same test
 pub same_test : (a b : Bool) → (a ≡ true → b ≡ true) → (b ≡ true → a ≡ true) → a ≡ b

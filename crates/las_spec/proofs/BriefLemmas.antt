@@ -14,6 +14,7 @@ use Rattle.las_base.specs.Axes.{same_axis}
 use Rattle.las_base.specs.Cells.{holds, same_cell, same_size}
 use Rattle.las_base.specs.Jobs.{Task, IsTask, task_of, within_limits, port_fits, distinct_cells}
 use Rattle.las_base.proofs.Same.{same_cell-sym, same_size-is, same_size-sym, none_any}
+use Rattle.las_base.proofs.Lists.{filter_passes}
 use Rattle.las_spec.specs.declared.draft.WrittenPort.{WrittenPort}
 use Rattle.las_spec.specs.declared.refusal.SpecRefused.{SpecRefused}
 use Rattle.las_spec.specs.declared.refusal.SpecRefused.TheVariants.{SizeOut, PortCount, PortWay, PortBasis, PortPlace, PortTwice, FlowCount, FlowLength, FlowLetter, ForbiddenPlace, BoxCount, BoxSize, BoxPort}
@@ -195,14 +196,6 @@ no_bad_port own box before n (p ∷ ps) e h =
         let r = ih rest (free (list_any (same_cell c) before) refl a.1) in
         (and_true (fits_at box (port_written p) c) (list_all (port_fits box) (map (port_carried own box) ps)) a.0 r.0, ap (apart same_cell) (sym (append_assoc before (c ∷ []) places)) ∙ r.1)
 
-kept_hold : (test : Cell → Bool) (cs : List Cell) → list_all test (filter test cs) ≡ true
-kept_hold test [] = refl
-kept_hold test (c ∷ cs) = by_test (test c) refl (kept_hold test cs)
-  where
-    by_test : (b : Bool) → test c ≡ b → list_all test (filter test cs) ≡ true → list_all test (cond b (c ∷ filter test cs) (filter test cs)) ≡ true
-    by_test true e ih = rw e ih
-    by_test false e ih = ih
-
 -- the job of a box is a job
 job_in_box : (own box : Size) (ports : List Port) (flows : List (List Pauli)) (forbidden : List Cell) → IsTask (task_of own ports flows forbidden) → within_limits box ≡ true → first_bad_port own box [] 0 (map port_written ports) ≡ None
     → IsTask (task_of box (map (port_carried own box) ports) flows (filter (holds box) forbidden))
@@ -217,7 +210,7 @@ job_in_box own box ports flows forbidden t size none =
       distinct_places = sym (apart-cells (map (λ p. p.place) (map (port_carried own box) ports))) ∙ r.1;
       flow_count = t.flow_count;
       words = ap (λ n. list_all (λ (w : List Pauli). nat_eq (length w) n) flows) number ∙ t.words;
-      forbidden = kept_hold (holds box) forbidden;
+      forbidden = filter_passes (holds box) forbidden;
       distinct_forbidden = sym (apart-cells (filter (holds box) forbidden)) ∙ filter-apart same_cell (holds box) forbidden (apart-cells forbidden ∙ t.distinct_forbidden);
     }
 

@@ -7,8 +7,9 @@ use Rattle.las_base.specs.declared.Size.{Size}
 use Rattle.las_base.specs.Cells.{same_cell, same_size}
 use Rattle.las_base.specs.Jobs.{distinct_cells}
 use Rattle.las_base.proofs.Same.{same_cell-sym, same_size-sym, none_any}
+use Rattle.las_base.proofs.Lists.{all_more}
 use Rattle.las_spec.specs.Briefs.{once, distinct_sizes}
-use Rattle.las_spec.proofs.Lists.{all_so, all_push}
+use Rattle.las_spec.proofs.Lists.{all_push}
 use Rattle.las_spec.proofs.OnceLemmas.{apart, apart-cells, apart-sizes}
 
 -- none of those that were seen stands in the list
@@ -18,7 +19,7 @@ unseen same seen xs = list_all (λ y. not (list_any (same y) xs)) seen
 module _ {X : Type 0} (same : X → X → Bool) (both_ways : (x y : X) → same x y ≡ same y x) where
   -- none of those that were seen is the first
   pub first_is_new : (seen : List X) (x : X) (xs : List X) → unseen same seen (x ∷ xs) ≡ true → list_all (λ y. not (same x y)) seen ≡ true
-  first_is_new seen x xs e = all_so (λ y. not (list_any (same y) (x ∷ xs))) (λ y. not (same x y)) (λ y t. rw (both_ways x y, (or_parts (same y x) (list_any (same y) xs) (not-true _ t)).0) refl) seen e
+  first_is_new seen x xs e = all_more (λ y. not (list_any (same y) (x ∷ xs))) (λ y. not (same x y)) (λ y t. rw (both_ways x y, (or_parts (same y x) (list_any (same y) xs) (not-true _ t)).0) refl) seen e
 
   pub first_not_seen : (seen : List X) (x : X) (xs : List X) → unseen same seen (x ∷ xs) ≡ true → list_any (same x) seen ≡ false
   first_not_seen seen x xs e = none_any (same x) seen (first_is_new seen x xs e)
@@ -27,7 +28,7 @@ module _ {X : Type 0} (same : X → X → Bool) (both_ways : (x y : X) → same 
   pub rest_is_apart : (seen : List X) (x : X) (xs : List X) → unseen same seen (x ∷ xs) ≡ true → not (list_any (same x) xs) ≡ true → unseen same (seen ++ x ∷ []) xs ≡ true
   rest_is_apart seen x xs e new =
       all_push (λ y. not (list_any (same y) xs)) seen x
-      (all_so (λ y. not (list_any (same y) (x ∷ xs))) (λ y. not (list_any (same y) xs)) (λ y t. rw ((or_parts (same y x) (list_any (same y) xs) (not-true _ t)).1) refl) seen e) new
+      (all_more (λ y. not (list_any (same y) (x ∷ xs))) (λ y. not (list_any (same y) xs)) (λ y t. rw ((or_parts (same y x) (list_any (same y) xs) (not-true _ t)).1) refl) seen e) new
 
   all_kept : (seen xs : List X) → unseen same seen xs ≡ true → apart same xs ≡ true → once same seen xs ≡ seen ++ xs
   all_kept seen [] e d = sym (append-nil seen)

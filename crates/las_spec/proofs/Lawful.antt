@@ -12,12 +12,13 @@ use Rattle.las_base.specs.Axes.{same_axis}
 use Rattle.las_base.specs.Cells.{holds, same_cell, same_size}
 use Rattle.las_base.specs.Jobs.{Task, IsTask, within_limits, port_fits, distinct_cells}
 use Rattle.las_base.proofs.Same.{same_cell-sym, same_size-refl}
+use Rattle.las_base.proofs.Lists.{all_more}
 use Rattle.las_spec.specs.declared.refusal.SpecRefused.{SpecRefused}
 use Rattle.las_spec.specs.declared.refusal.SpecRefused.TheVariants.{SizeOut, PortCount, PortWay, PortBasis, PortPlace, PortTwice, FlowCount, FlowLength, FlowLetter, ForbiddenPlace, BoxCount, BoxSize, BoxPort}
 use Rattle.las_spec.specs.Written.{Written, port_written, written_by}
 use Rattle.las_spec.specs.Refusals.{first_of, unless, is_count, has_bad_basis, fits_at, first_repeat, first_bad_letter, carried, first_bad_port, first_bad_box, port_refusals, flow_refusals, job_refusals, box_refusals, job_refusal, refusal}
 use Rattle.las_spec.specs.Briefs.{Brief, IsBrief, brief_of, once, port_of, letters_of, port_carried, judged, job_given, spec_given, task_written, brief_written}
-use Rattle.las_spec.proofs.Lists.{all_of_each, all_so, no_position, no_position_made, map_back, filter_back}
+use Rattle.las_spec.proofs.Lists.{all_of_each, no_position, no_position_made, map_back, filter_back}
 use Rattle.las_spec.proofs.OnceLemmas.{apart, apart-cells}
 use Rattle.las_spec.proofs.Distinct.{unseen, first_is_new, first_not_seen, rest_is_apart, cells_once, sizes_once}
 
@@ -147,10 +148,10 @@ flow_letter_row : (words : List (List Pauli)) → option_map (λ x. FlowLetter x
 flow_letter_row words = none_mapped (λ x. FlowLetter x.0 x.1) _ (no_bad_letter 0 words)
 
 forbidden_row : (s : Size) (cs : List Cell) → list_all (holds s) cs ≡ true → option_map ForbiddenPlace (position (λ c. not (holds s c)) cs) ≡ None
-forbidden_row s cs e = none_mapped ForbiddenPlace _ (no_position (λ c. not (holds s c)) cs (all_so (holds s) (λ c. not (not (holds s c))) (λ c t. twice_not (holds s c) t) cs e))
+forbidden_row s cs e = none_mapped ForbiddenPlace _ (no_position (λ c. not (holds s c)) cs (all_more (holds s) (λ c. not (not (holds s c))) (λ c t. twice_not (holds s c) t) cs e))
 
 box_size_row : (boxes : List Size) → list_all within_limits boxes ≡ true → option_map BoxSize (position (λ box. not (within_limits box)) boxes) ≡ None
-box_size_row boxes e = none_mapped BoxSize _ (no_position (λ box. not (within_limits box)) boxes (all_so within_limits (λ box. not (not (within_limits box))) (λ box t. twice_not (within_limits box) t) boxes e))
+box_size_row boxes e = none_mapped BoxSize _ (no_position (λ box. not (within_limits box)) boxes (all_more within_limits (λ box. not (not (within_limits box))) (λ box t. twice_not (within_limits box) t) boxes e))
 
 no_port_refusal : (t : Task) → IsTask t → first_of (port_refusals t.size (map port_written t.ports)) ≡ None
 no_port_refusal t h =

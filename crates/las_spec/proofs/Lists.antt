@@ -4,16 +4,11 @@ use Rattle.std.specs.Prelude.{position}
 use Rattle.std.specs.List.{list_all, filter_map, prefix_len}
 use Rattle.std.proofs.lemmas.Bool.{and_parts, and_from, le-ltb}
 use Rattle.std.proofs.lemmas.List.Folds.{list_all-map}
+use Rattle.las_base.proofs.Lists.{all_more}
 
 pub all_of_each : {X : Type 0} (test : X → Bool) → ((x : X) → test x ≡ true) → (xs : List X) → list_all test xs ≡ true
 all_of_each test h [] = refl
 all_of_each test h (x ∷ xs) = and_from (test x) (list_all test xs) (h x) (all_of_each test h xs)
-
-pub all_so : {X : Type 0} (p q : X → Bool) → ((x : X) → p x ≡ true → q x ≡ true) → (xs : List X) → list_all p xs ≡ true → list_all q xs ≡ true
-all_so p q h [] e = refl
-all_so p q h (x ∷ xs) e =
-    let s = and_parts (p x) (list_all p xs) e in
-    and_from (q x) (list_all q xs) (h x s.0) (all_so p q h xs s.1)
 
 whole_front : {X : Type 0} (test : X → Bool) (xs : List X) → list_all test xs ≡ true → prefix_len test xs ≡ length xs
 whole_front test [] e = refl
@@ -39,7 +34,7 @@ filter_back f g h (x ∷ xs) = rw (h x) (ap (λ ys. x ∷ ys) (filter_back f g h
 
 -- no thing's image passes
 pub no_position_made : {A B : Type 0} (test : B → Bool) (g : A → B) (pass : A → Bool) → ((x : A) → pass x ≡ true → not (test (g x)) ≡ true) → (xs : List A) → list_all pass xs ≡ true → position test (map g xs) ≡ None
-no_position_made test g pass h xs e = no_position test (map g xs) (list_all-map (λ y. not (test y)) g xs ∙ all_so pass (λ x. not (test (g x))) h xs e)
+no_position_made test g pass h xs e = no_position test (map g xs) (list_all-map (λ y. not (test y)) g xs ∙ all_more pass (λ x. not (test (g x))) h xs e)
 
 pub all_push : {X : Type 0} (test : X → Bool) (xs : List X) (x : X) → list_all test xs ≡ true → test x ≡ true → list_all test (xs ++ x ∷ []) ≡ true
 all_push test [] x e t = and_from (test x) true t refl

@@ -49,10 +49,6 @@ not_there : (file : Option (List ℕ)) → false ≡ is_some file → file ≡ N
 not_there None none = refl
 not_there (Some bytes) none = absurd (cc)
 
-pub is_absent : (files : Option (List File)) (name : List ℕ) → IfSome files (λ fs. false ≡ is_some (file_of fs name)) → IfSome files (λ fs. file_of fs name ≡ None)
-is_absent None name none = tt
-is_absent (Some fs) name none = not_there (file_of fs name) none
-
 module _ {H : Type 0} (shelf : ShelfTells H) (before : H) (answer : Answer) where
   pub log_judged : (f : Cnf) (name own : List ℕ) (mid : H) → shelf.finds before name true → IfSome (shelf.files before) (λ fs. true ≡ is_some (file_of fs name)) → own ≡ name → FilesStay (shelf.files before) (shelf.files mid)
       → AnswersSteps f (log_told own (shelf.files mid)) answer → AnswersLogFile shelf (IsRefuted f.clauses) f name before answer

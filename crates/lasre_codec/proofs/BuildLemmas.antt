@@ -10,6 +10,7 @@ use Rattle.las_base.specs.declared.Cell.{Cell}
 use Rattle.las_base.specs.declared.Size.{Size}
 use Rattle.las_base.specs.Cells.{holds, index, same_cell}
 use Rattle.las_base.specs.Jobs.{within_limits}
+use Rattle.las_base.specs.Axes.{kind_by}
 use Rattle.grid_box.specs.Drawings.{Drawing, IsDrawing, drawing_of, is_pipe_at, pipe_at, is_y}
 use Rattle.grid_box.specs.LookUps.{pipe_of, kinds_are_lawful}
 use Rattle.grid_box.proofs.LookUpLemmas.{pipe_at-drawing_by, is_y-drawing_by}
@@ -18,7 +19,7 @@ use Rattle.grid_box.proofs.TellLemmas.{look_ups_tell}
 use Rattle.lasre_codec.specs.declared.member.Member.{Member}
 use Rattle.lasre_codec.specs.declared.member.Member.TheVariants.{NodeY}
 use Rattle.lasre_codec.specs.Members.{pipes_along, colours_of}
-use Rattle.lasre_codec.specs.Entries.{is_one_at, marks, kind_by, kinds_in, drawing_in}
+use Rattle.lasre_codec.specs.Entries.{is_one_at, marks, kinds_in, drawing_in}
 use Rattle.lasre_codec.specs.Puts.{pipe_marked, PutsAlong, PutsYCells}
 
 -- what is built, look-up by look-up

@@ -7,6 +7,7 @@ use Rattle.std.specs.declared.alloc.Global.{Global}
 use Rattle.std.proofs.lemmas.List.{map_push, take_all}
 use Rattle.std.proofs.lemmas.Option.{slice_get-get_or}
 use Rattle.serde_json.specs.Data.{Data}
+use Rattle.las_base.proofs.Lists.{taken_next}
 use Rattle.json_shape.specs.declared.grid.Entry.{Entry}
 use Rattle.grid_box.proofs.FindLemmas.{found_next, passed_next, none_passed}
 use Rattle.lasre_codec.specs.declared.member.Member.{Member}
@@ -20,11 +21,6 @@ use Rattle.lasre_codec.specs.Kept.{AreKept}
 pub record AreRead (d : Data) (ms : List Member) (n : ℕ) (vs : List (Vec Entry Global)) : Type 0 where
   pub shaped : find (λ m. is_none (entries_in d m)) (take n ms) ≡ None
   pub kept : map (λ v. v.items) vs ≡ map (λ m. or_none (entries_in d m)) (take n ms)
-
-taken_next : {A : Type 0} (xs : List A) (n : ℕ) (x : A) → slice_get xs n ≡ Some x → take (suc n) xs ≡ take n xs ++ x ∷ []
-taken_next [] n x at = absurd (cc)
-taken_next (y ∷ ys) zero x at = let same : y ≡ x = cc in rw same refl
-taken_next (y ∷ ys) (suc n) x at = ap (λ l. y ∷ l) (taken_next ys n x at)
 
 pub reading_begins : (d : Data) (ms : List Member) → AreRead d ms 0 []
 reading_begins d ms = record { shaped = refl; kept = refl }

@@ -1,38 +1,28 @@
 -- Cells that are marked, as a loop over their numbers goes through them.
-use Rattle.std.proofs.Common.{◌≡◌, ◌≢◌, ℕ, suc, ◌+◌, ◌<◌, ◌≤◌, Bool, true, false, cond, ◌&&◌, ◌||◌, nat_lt, List, Some, ◌⊎◌, inl, inr, refl, sym, ap, ◌∙◌, subst, arith, add-one}
-use Rattle.std.proofs.lemmas.Bool.{cases_Bool, both_ways, ltb-true, ltb-false, lt-ltb, le-ltb}
+use Rattle.std.proofs.Common.{◌≡◌, ◌≢◌, ℕ, suc, ◌+◌, ◌<◌, ◌≤◌, Bool, true, false, cond, ◌&&◌, ◌||◌, nat_lt, List, Some, refl, sym, ap, ◌∙◌, subst, arith, add-one}
+use Rattle.std.proofs.lemmas.Bool.{both_ways, lt-ltb, le-ltb}
+use Rattle.std.proofs.Math.Bool.{and-false}
 use Rattle.json_shape.specs.declared.grid.Entry.{Entry}
 use Rattle.las_base.specs.declared.Axis.{Axis}
 use Rattle.las_base.specs.declared.Kind.{Kind}
 use Rattle.las_base.specs.declared.Cell.{Cell}
 use Rattle.las_base.specs.declared.Size.{Size}
-use Rattle.las_base.specs.Axes.{same_axis}
+use Rattle.las_base.specs.Axes.{same_axis, kind_by}
 use Rattle.las_base.specs.Cells.{holds, volume, index, same_cell}
 use Rattle.las_base.proofs.Same.{same_cell-is, same_cell-refl, same_cell-sym, same_axis-is}
-use Rattle.las_base.proofs.Indices.{cell_at, cell_at-index, index_below}
+use Rattle.las_base.proofs.Indices.{cell_at, cell_at-index, index_below, nat_lt-more}
 use Rattle.grid_box.specs.Drawings.{Pipe, Drawing, pipe_at, is_y}
 use Rattle.grid_box.specs.LookUps.{PutsPipe, PutsY}
-use Rattle.lasre_codec.specs.Entries.{is_one_at, marks, kind_by}
+use Rattle.lasre_codec.specs.Entries.{is_one_at, marks}
 use Rattle.lasre_codec.specs.Puts.{pipe_marked, PutsPipes, PutsYCells}
 
 -- the cell has a number below n, and passes a test of numbers
 abbrev pub passed : Size → ℕ → (ℕ → Bool) → Cell → Bool
 passed s n test c = holds s c && (nat_lt (index s c) n && test (index s c))
 
-nat_lt-more : (n m : ℕ) → n ≢ m → nat_lt n (suc m) ≡ nat_lt n m
-nat_lt-more n m other = by_test (cases_Bool (nat_lt n m))
-  where
-    by_test : (nat_lt n m ≡ true) ⊎ (nat_lt n m ≡ false) → nat_lt n (suc m) ≡ nat_lt n m
-    by_test (inl t) = let low : n < m = ltb-true n m t in lt-ltb n (suc m) (omega arith) ∙ sym t
-    by_test (inr t) = let high : m ≤ n = ltb-false n m t in le-ltb n (suc m) (omega (arith, other)) ∙ sym t
-
 module _ (s : Size) (test : ℕ → Bool) where
   pub passed_none : (c : Cell) → passed s 0 test c ≡ false
-  passed_none c = rw (le-ltb (index s c) 0 (omega arith)) (and_false (holds s c))
-    where
-      and_false : (b : Bool) → (b && false) ≡ false
-      and_false true = refl
-      and_false false = refl
+  passed_none c = rw (le-ltb (index s c) 0 (omega arith)) (and-false (holds s c))
 
   -- with one number more
   pub passed_more : (n : ℕ) (cell : Cell) → holds s cell ≡ true → index s cell ≡ n → (c : Cell) → passed s (suc n) test c ≡ cond (same_cell cell c) (test n) (passed s n test c)
@@ -79,12 +69,8 @@ abbrev pub PutsSome : Size → ℕ → Axis → List Entry → List Entry → Li
 PutsSome s n axis exist low high old new = (a : Axis) (c : Cell) → pipe_at new a c ≡ cond (same_axis axis a && passed s n (is_one_at exist) c) (Some (pipe_marked s a low high c)) (pipe_at old a c)
 
 module _ (s : Size) (axis : Axis) (exist low high : List Entry) where
-  and_false : (b : Bool) → (b && false) ≡ false
-  and_false true = refl
-  and_false false = refl
-
   pub no_pipes : (d : Drawing) → PutsSome s 0 axis exist low high d d
-  no_pipes d a c = rw (passed_none s (is_one_at exist) c, and_false (same_axis axis a)) refl
+  no_pipes d a c = rw (passed_none s (is_one_at exist) c, and-false (same_axis axis a)) refl
 
   pub pipe_put : (n : ℕ) (cell : Cell) (low_kind high_kind : Kind) (old mid new : Drawing) → is_one_at exist n ≡ true → holds s cell ≡ true → index s cell ≡ n → low_kind ≡ kind_by (is_one_at low n) → high_kind ≡ kind_by (is_one_at high n)
       → PutsSome s n axis exist low high old mid → PutsPipe mid new (record { axis = axis; cell = cell; low = low_kind; high = high_kind }) → PutsSome s (n + 1) axis exist low high old new

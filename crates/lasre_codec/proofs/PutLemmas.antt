@@ -1,5 +1,5 @@
 -- Sheets that are put one after another.
-use Rattle.std.proofs.Common.{◌≡◌, ℕ, zero, suc, ◌+◌, ◌*◌, ◌<◌, ◌≤◌, Bool, true, false, cond, ◌&&◌, ◌||◌, not, nat_eq, nat_lt, ◌⊎◌, inl, inr, List, [], ◌∷◌, ◌++◌, map, length, take, drop, get_or, replicate, Some, slice_get, refl, sym, ap, ◌∙◌, arith, add-one}
+use Rattle.std.proofs.Common.{◌≡◌, ℕ, zero, suc, ◌+◌, ◌*◌, ◌<◌, ◌≤◌, Bool, true, false, cond, ◌&&◌, ◌||◌, not, nat_eq, nat_lt, ◌⊎◌, inl, inr, List, [], ◌∷◌, map, length, take, drop, get_or, replicate, Some, slice_get, refl, sym, ap, ◌∙◌, arith, add-one}
 use Rattle.std.specs.Prelude.{slice_index_or}
 use Rattle.std.specs.List.{list_any}
 use Rattle.std.specs.Option.{option_map_or}
@@ -15,7 +15,9 @@ use Rattle.las_base.specs.Jobs.{within_limits}
 use Rattle.las_base.proofs.Same.{same_axis-is}
 use Rattle.las_base.proofs.Indices.{index_below}
 use Rattle.las_base.proofs.Blocks.{at_number, length-numbers_from}
+use Rattle.las_base.proofs.Lists.{any_push, taken_next}
 use Rattle.std.proofs.lemmas.List.{length-map}
+use Rattle.std.proofs.Math.Bool.{and-false, or-false}
 use Rattle.grid_box.specs.Sheets.{Sheet}
 use Rattle.grid_box.specs.Surfaces.{Surfaces, IsSurfaces, PutsSheet, has_sheet, sheet_axes, sheets_by, sheets_of, surfaces_of}
 use Rattle.grid_box.proofs.SheetLemmas.{fits, has-sheets_by, all_in_order, sheets_tell}
@@ -36,10 +38,6 @@ abbrev pub PutsSomeSheets : Size → ℕ → ℕ → Axis → Axis → List Entr
 PutsSomeSheets s n flow a b exist corr old new =
     (f : ℕ) (x : Sheet) → has_sheet (sheets_of new f) x ≡ ((nat_eq f flow && (is_along a b x && passed s n (both_at s flow exist corr) x.cell)) || has_sheet (sheets_of old f) x)
 
-and_false : (b : Bool) → (b && false) ≡ false
-and_false true = refl
-and_false false = refl
-
 at_drop : {A : Type 0} (n : ℕ) (xs : List A) (i : ℕ) → slice_get (drop n xs) i ≡ slice_get xs (n + i)
 at_drop zero xs i = let same : zero + i ≡ i = omega arith in rw same refl
 at_drop (suc n) [] i = refl
@@ -53,7 +51,7 @@ at_take (suc n) (x ∷ xs) (suc i) low = at_take n xs i (omega arith)
 
 module _ (s : Size) (flow : ℕ) (a b : Axis) (exist corr : List Entry) where
   pub no_sheets : (d : Surfaces) → PutsSomeSheets s 0 flow a b exist corr d d
-  no_sheets d f x = rw (passed_none s (both_at s flow exist corr) x.cell, and_false (is_along a b x), and_false (nat_eq f flow)) refl
+  no_sheets d f x = rw (passed_none s (both_at s flow exist corr) x.cell, and-false (is_along a b x), and-false (nat_eq f flow)) refl
 
   pub sheet_put : (n : ℕ) (cell : Cell) (old mid new : Surfaces) → both_at s flow exist corr n ≡ true → holds s cell ≡ true → index s cell ≡ n → PutsSomeSheets s n flow a b exist corr old mid → PutsSheet mid new flow (record { axis = a; cell = cell; span = b }) true → PutsSomeSheets s (n + 1) flow a b exist corr old new
   sheet_put n cell old mid new both held at before puts f x =
@@ -83,30 +81,13 @@ module _ (s : Size) (flow : ℕ) (a b : Axis) (exist corr : List Entry) where
 
 -- ---- all axes of one flow
 
-any-append : {X : Type 0} (test : X → Bool) (xs : List X) (x : X) → list_any test (xs ++ x ∷ []) ≡ (list_any test xs || test x)
-any-append test [] x = or_false (test x)
-  where
-    or_false : (b : Bool) → (b || false) ≡ b
-    or_false true = refl
-    or_false false = refl
-any-append test (y ∷ xs) x = ap (λ r. test y || r) (any-append test xs x) ∙ or_assoc (test y) (list_any test xs) (test x)
-  where
-    or_assoc : (b c d : Bool) → (b || (c || d)) ≡ ((b || c) || d)
-    or_assoc true c d = refl
-    or_assoc false c d = refl
-
-taken_next : {A : Type 0} (xs : List A) (n : ℕ) (x : A) → slice_get xs n ≡ Some x → take (suc n) xs ≡ take n xs ++ x ∷ []
-taken_next [] n x at = absurd (cc)
-taken_next (y ∷ ys) zero x at = let same : y ≡ x = cc in rw same refl
-taken_next (y ∷ ys) (suc n) x at = ap (λ l. y ∷ l) (taken_next ys n x at)
-
 module _ (es : Member → List Entry) (s : Size) (flow : ℕ) where
   pub no_axes : (d : Surfaces) → PutsFlow es s flow [] d d
-  no_axes d f x = rw (and_false (nat_eq f flow)) refl
+  no_axes d f x = rw (and-false (nat_eq f flow)) refl
 
   pub axes_put : (ps : List (Axis × Axis)) (n : ℕ) (p : Axis × Axis) (old mid new : Surfaces) → slice_get ps n ≡ Some p → PutsFlow es s flow (take n ps) old mid → PutsSheets s flow p.0 p.1 (es (pipes_along p.0)) (flow_part s flow (es (sheets_along p.0 p.1))) mid new → PutsFlow es s flow (take (n + 1) ps) old new
   axes_put ps n p old mid new at before puts f x =
-      rw (add-one, taken_next ps n p at, any-append (λ q. is_along q.0 q.1 x) (take n ps) p)
+      rw (add-one, taken_next ps n p at, any_push (λ q. is_along q.0 q.1 x) (take n ps) p)
       (puts f x ∙ rw (before f x) (by_flow (nat_eq f flow) refl))
     where
       shown : is_along p.0 p.1 x ≡ true → (marks s (es (pipes_along p.0)) x.cell && marks s (flow_part s flow (es (sheets_along p.0 p.1))) x.cell) ≡ shows_sheet es s flow x
@@ -163,11 +144,7 @@ module _ (es : Member → List Entry) (s : Size) where
           by_test (inr t) = let high : n ≤ f = ltb-false f n t in t ∙ sym (le-ltb f (suc n) (omega (arith, eqb-false f n e)))
 
       by_flow : (b : Bool) → nat_eq f n ≡ b → (m : Bool) → ((b && m) || (nat_lt f n && m)) ≡ (nat_lt f (suc n) && m)
-      by_flow true e m = let same : f ≡ n = eqb-true f n e in rw (same, lt-ltb n (suc n) (omega arith), le-ltb n n (omega arith)) (or_false m)
-        where
-          or_false : (b : Bool) → (b || false) ≡ b
-          or_false true = refl
-          or_false false = refl
+      by_flow true e m = let same : f ≡ n = eqb-true f n e in rw (same, lt-ltb n (suc n) (omega arith), le-ltb n n (omega arith)) (or-false m)
       by_flow false e m = ap (λ b. b && m) (other e)
 
   among : (a b : Axis) → list_any (λ (p : Axis × Axis). same_axis p.0 a && same_axis p.1 b) sheet_axes ≡ not (same_axis a b)

@@ -4,15 +4,16 @@ use Rattle.std.specs.Prelude.{is_some}
 use Rattle.std.specs.List.{list_all, list_any, find}
 use Rattle.std.specs.Option.{option_map_or}
 use Rattle.std.proofs.lemmas.Bool.{and_parts}
+use Rattle.std.proofs.Math.Bool.{and-false}
 use Rattle.json_shape.specs.declared.grid.Entry.{Entry}
 use Rattle.las_base.specs.declared.Axis.{Axis}
 use Rattle.las_base.specs.declared.Axis.TheVariants.{I, J, K}
 use Rattle.las_base.specs.declared.Kind.{Kind}
 use Rattle.las_base.specs.declared.Cell.{Cell}
 use Rattle.las_base.specs.declared.Size.{Size}
-use Rattle.las_base.specs.Axes.{same_axis, same_kind}
+use Rattle.las_base.specs.Axes.{same_axis, same_kind, kind_by}
 use Rattle.las_base.specs.Cells.{holds, same_cell}
-use Rattle.las_base.proofs.Same.{same_cell-is, same_axis-is}
+use Rattle.las_base.proofs.Same.{same_cell-is, same_axis-is, kind_by-same}
 use Rattle.grid_box.specs.Drawings.{Pipe, Drawing, IsDrawing, is_pipe_at, pipe_at, kinds_at, is_y, has_lawful_kinds}
 use Rattle.grid_box.specs.LookUps.{pipe_of, kinds_are_lawful}
 use Rattle.grid_box.proofs.LookUpLemmas.{pipe_at-drawing_by, is_y-drawing_by}
@@ -21,7 +22,7 @@ use Rattle.grid_box.proofs.TellLemmas.{look_ups_tell}
 use Rattle.lasre_codec.specs.declared.member.Member.{Member}
 use Rattle.lasre_codec.specs.declared.member.Member.TheVariants.{ColorI, ColorJ, ColorKM, ColorKP, ExistI, ExistJ, ExistK, NodeY}
 use Rattle.lasre_codec.specs.Members.{is_grid, is_stack}
-use Rattle.lasre_codec.specs.Entries.{marks, flow_part, kind_by, kinds_in, drawing_in}
+use Rattle.lasre_codec.specs.Entries.{marks, flow_part, kinds_in, drawing_in}
 use Rattle.lasre_codec.specs.Documents.{Lasre, IsLasre}
 use Rattle.lasre_codec.specs.Texts.{bit_of}
 use Rattle.lasre_codec.proofs.GridLemmas.{written, parts, mark_written, part_written}
@@ -89,28 +90,20 @@ module _ (d : Drawing) (h : IsDrawing d) where
   y_given : (c : Cell) → (holds d.size c && is_y d c) ≡ is_y d c
   y_given c = by_listed (is_y d c) refl
     where
-      and_one : (b : Bool) → (b && false) ≡ false
-      and_one true = refl
-      and_one false = refl
-
       by_listed : (b : Bool) → is_y d c ≡ b → (holds d.size c && b) ≡ b
       by_listed true e = rw (listed_good (same_cell c) (holds d.size) c (λ y t. same_cell-is c y t) d.y_cells e h.y_cells_in_box) refl
-      by_listed false e = and_one (holds d.size c)
+      by_listed false e = and-false (holds d.size c)
 
 -- ---- the diagram
 
-kind_back : (k : Kind) → kind_by (same_kind k Kind.Z) ≡ k
-kind_back Kind.X = refl
-kind_back Kind.Z = refl
-
 kinds_back : (o : Option (Kind × Kind)) → cond (is_some o) (Some (kind_by (option_map_or (λ k. same_kind k.0 Kind.Z) o false), kind_by (option_map_or (λ k. same_kind k.1 Kind.Z) o false))) None ≡ o
 kinds_back None = refl
-kinds_back (Some k) = rw (kind_back k.0, kind_back k.1) refl
+kinds_back (Some k) = rw (kind_by-same k.0, kind_by-same k.1) refl
 
 one_kind_back : (o : Option (Kind × Kind)) → option_map_or (λ k. same_kind k.0 k.1) o true ≡ true
     → cond (is_some o) (Some (kind_by (option_map_or (λ k. same_kind k.0 Kind.Z) o false), kind_by (option_map_or (λ k. same_kind k.0 Kind.Z) o false))) None ≡ o
 one_kind_back None h = refl
-one_kind_back (Some k) h = rw (kind_back k.0) (ap (λ l. Some (k.0, l)) (same k.0 k.1 h))
+one_kind_back (Some k) h = rw (kind_by-same k.0) (ap (λ l. Some (k.0, l)) (same k.0 k.1 h))
   where
     same : (k l : Kind) → same_kind k l ≡ true → k ≡ l
     same Kind.X Kind.X e = refl

@@ -4,6 +4,7 @@ use Rattle.std.specs.Prelude.{option_map, is_none}
 use Rattle.std.specs.List.{find, list_all}
 use Rattle.std.specs.Option.{option_or}
 use Rattle.std.proofs.lemmas.Bool.{and_parts}
+use Rattle.std.proofs.Math.Bool.{and-false}
 use Rattle.serde_json.specs.Data.{Data}
 use Rattle.serde_json.specs.Find.{get}
 use Rattle.json_shape.specs.declared.grid.Entry.{Entry}
@@ -39,10 +40,6 @@ bit_at : (es : List Entry) (n : ℕ) → list_all is_bit es ≡ true → n < len
 bit_at [] n all low = absurd (omega arith)
 bit_at (e ∷ es) zero all low = (and_parts (is_bit e) (list_all is_bit es) all).0
 bit_at (e ∷ es) (suc n) all low = bit_at es n (and_parts (is_bit e) (list_all is_bit es) all).1 (omega arith)
-
-and_false : (b : Bool) → (b && false) ≡ false
-and_false true = refl
-and_false false = refl
 
 -- ---- members
 
@@ -130,7 +127,7 @@ module _ (l : Lasre) (h : IsLasre l) where
   -- ---- no refusal holds
 
   none_missing : missing_in d ≡ None
-  none_missing = find_none (λ _. true) (λ m. is_needed m && is_none (get (member_name m) d)) (λ m _. rw (member_back l m) (and_false (is_needed m))) members refl
+  none_missing = find_none (λ _. true) (λ m. is_needed m && is_none (get (member_name m) d)) (λ m _. rw (member_back l m) (and-false (is_needed m))) members refl
 
   none_misshapen : misshapen_in d ≡ None
   none_misshapen = find_none is_grid (λ m. is_none (entries_in d m)) (λ m g. rw (entries_back m g) refl) grids refl
@@ -141,7 +138,7 @@ module _ (l : Lasre) (h : IsLasre l) where
   no_bad_place : (m : Member) → is_grid m ≡ true → bad_place (entries_of d) (volume s) m ≡ None
   no_bad_place m g =
       no_number (is_bad_at (entries_of d) (volume s) m) 0 (length (entries_of d m))
-      (λ i low. ap (λ b. counts_at (entries_of d) (volume s) m i && not b) (bit_at (entries_of d m) i (ap (list_all is_bit) (entries_are m g) ∙ all_bits m) (omega (arith, low))) ∙ and_false (counts_at (entries_of d) (volume s) m i))
+      (λ i low. ap (λ b. counts_at (entries_of d) (volume s) m i && not b) (bit_at (entries_of d m) i (ap (list_all is_bit) (entries_are m g) ∙ all_bits m) (omega (arith, low))) ∙ and-false (counts_at (entries_of d) (volume s) m i))
 
   none_bad : (ms : List Member) → list_all is_grid ms ≡ true → first_bad (entries_of d) (volume s) ms ≡ None
   none_bad [] all = refl

@@ -1,5 +1,5 @@
 -- Values that are sent one by one: arrays by number, and the object by its table of members.
-use Rattle.std.proofs.Common.{◌≡◌, ℕ, zero, suc, ◌+◌, ◌<◌, ◌≤◌, List, [], ◌∷◌, ◌++◌, map, length, take, get_or, Some, refl, sym, ap, ◌∙◌, subst, arith}
+use Rattle.std.proofs.Common.{◌≡◌, ℕ, suc, ◌+◌, ◌<◌, ◌≤◌, List, [], ◌∷◌, ◌++◌, map, length, take, get_or, Some, refl, sym, ap, ◌∙◌, subst, arith}
 use Rattle.std.proofs.lemmas.List.{take_all, take_more}
 use Rattle.serde.specs.Event.{Log, Logs, Then, Sends, WritesEach, seq_begins, seq_ends, map_begins, map_ends, field_key}
 use Rattle.serde.specs.declared.name.Case.TheVariants.{AsIs}
@@ -7,6 +7,7 @@ use Rattle.serde_json.specs.Data.{Data}
 use Rattle.serde_json.specs.Events.{items_len, SendsValue, SendsItems, SendsMembers}
 use Rattle.serde_json.specs.View.{items_of}
 use Rattle.las_base.specs.Cells.{numbers_from}
+use Rattle.las_base.proofs.Blocks.{numbers_more, length-numbers_from}
 use Rattle.spec_codec.specs.Texts.{array_of}
 use Rattle.lasre_codec.specs.declared.member.Member.{Member}
 use Rattle.lasre_codec.specs.Members.{member_name, members}
@@ -19,16 +20,6 @@ sent_behind sends [] x first mid new before next = (new, subst (λ l. sends x l 
 sent_behind sends (y ∷ ys) x first mid new before next = (before.0, before.1, sent_behind sends ys x before.0 mid new before.2 next)
 
 -- ---- arrays
-
-numbers_more : (first n : ℕ) → numbers_from first (suc n) ≡ numbers_from first n ++ (first + n) ∷ []
-numbers_more first zero = let at : first ≡ first + 0 = omega arith in ap (λ x. x ∷ []) at
-numbers_more first (suc n) =
-    let at : suc first + n ≡ first + suc n = omega arith in
-    ap (λ xs. first ∷ xs) (numbers_more (suc first) n ∙ ap (λ x. numbers_from (suc first) n ++ x ∷ []) at)
-
-numbers_len : (first n : ℕ) → length (numbers_from first n) ≡ n
-numbers_len first zero = refl
-numbers_len first (suc n) = ap suc (numbers_len (suc first) n)
 
 -- the values for the first n numbers are sent in turn
 abbrev pub AreSent : (ℕ → Data) → ℕ → Log → Log → Type 0
@@ -52,7 +43,7 @@ items_many f (n ∷ ns) = ap suc (items_many f ns)
 -- between the marks of a sequence they are an array
 pub numbers_sent : (f : ℕ → Data) (n told count : ℕ) (old first last new : Log) → Logs old first (seq_begins (Some told)) → told ≡ count → AreSent f n first last → n ≡ count → Logs last new seq_ends → SendsValue (array_of (map f (numbers_from 0 count))) old new
 numbers_sent f n told count old first last new begun many before all ended =
-    let len : told ≡ items_len (items_of (map f (numbers_from 0 count))) = many ∙ sym (items_many f (numbers_from 0 count) ∙ numbers_len 0 count) in
+    let len : told ≡ items_len (items_of (map f (numbers_from 0 count))) = many ∙ sym (items_many f (numbers_from 0 count) ∙ length-numbers_from 0 count) in
     (first, subst (λ m. Logs old first (seq_begins (Some m))) len begun, items_sent f (numbers_from 0 count) first last new (subst (λ m. AreSent f m first last) all before) ended)
 
 -- ---- members

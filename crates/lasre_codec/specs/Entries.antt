@@ -13,6 +13,7 @@ use Rattle.las_base.specs.declared.End.TheVariants.{Low, High}
 use Rattle.las_base.specs.declared.Cell.{Cell}
 use Rattle.las_base.specs.declared.Size.{Size}
 use Rattle.las_base.specs.Cells.{holds, volume, index, numbers_from}
+use Rattle.las_base.specs.Axes.{kind_by}
 use Rattle.grid_box.specs.Drawings.{Drawing}
 use Rattle.grid_box.specs.LookUps.{drawing_by}
 use Rattle.grid_box.specs.Sheets.{Sheet}
@@ -88,11 +89,6 @@ first_bad es cells [] = None
 first_bad es cells (m ∷ ms) = option_or (option_map (Bit m) (bad_place es cells m)) (first_bad es cells ms)
 
 -- ---- what is shown
-
--- the kind that a colour says of the faces normal to the axis after the pipe's: Z for 1
-abbrev pub kind_by : Bool → Kind
-kind_by true = Kind.Z
-kind_by false = Kind.X
 
 -- the kinds of the pipe along an axis with this low cell, where it exists
 abbrev pub kinds_in : (Member → List Entry) → Size → Axis → Cell → Option (Kind × Kind)

@@ -6,13 +6,13 @@ use Rattle.las_base.specs.declared.Axis.{Axis}
 use Rattle.las_base.specs.declared.End.TheVariants.{Low, High}
 use Rattle.las_base.specs.declared.Cell.{Cell}
 use Rattle.las_base.specs.declared.Size.{Size}
-use Rattle.las_base.specs.Axes.{same_axis}
+use Rattle.las_base.specs.Axes.{same_axis, kind_by}
 use Rattle.grid_box.specs.Drawings.{Pipe, Drawing, pipe_at, is_y}
 use Rattle.grid_box.specs.Sheets.{Sheet}
 use Rattle.grid_box.specs.Surfaces.{Surfaces, has_sheet, sheets_of}
 use Rattle.lasre_codec.specs.declared.member.Member.{Member}
 use Rattle.lasre_codec.specs.Members.{pipes_along, colours_of}
-use Rattle.lasre_codec.specs.Entries.{marks, kind_by, shows_sheet}
+use Rattle.lasre_codec.specs.Entries.{marks, shows_sheet}
 
 -- the pipe along an axis at a cell, with its colours
 abbrev pub pipe_marked : Size → Axis → List Entry → List Entry → Cell → Pipe

@@ -1,9 +1,10 @@
 // The diagram that entries show.
 ghost use Rattle.std.specs.Prelude.{◌≡◌, ◌≢◌, ◌<◌, ◌≤◌, length, IfOk, IsTrue};
+ghost use Rattle.las_base.specs.Axes.{kind_by};
 ghost use Rattle.las_base.specs.Cells.{volume};
 ghost use Rattle.las_base.specs.Jobs.{within_limits};
 ghost use Rattle.grid_box.specs.Drawings.{IsDrawing};
-ghost use Rattle.lasre_codec.specs.Entries.{drawing_in, kind_by, is_one_at};
+ghost use Rattle.lasre_codec.specs.Entries.{drawing_in, is_one_at};
 ghost use Rattle.lasre_codec.specs.Kept.{entries_kept};
 ghost use Rattle.lasre_codec.specs.Puts.{PutsAlong, PutsPipes, PutsYCells};
 

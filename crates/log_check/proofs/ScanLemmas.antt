@@ -1,26 +1,19 @@
 -- A clause that is gone through once.
-use Rattle.std.proofs.Common.{◌≡◌, ◌⊎◌, ℕ, zero, suc, ◌+◌, ◌-◌, ◌*◌, ◌/◌, ◌%◌, ◌<◌, ◌≤◌, Bool, true, false, ◌&&◌, ◌||◌, not, cond, List, [], ◌∷◌, ◌++◌, map, length, get_or, take, drop, Option, Some, None, refl, sym, ap, ◌∙◌, subst, arith, inl, inr, nat_eq, nat_lt}
+use Rattle.std.proofs.Common.{◌≡◌, ◌⊎◌, ℕ, zero, suc, ◌+◌, ◌-◌, ◌*◌, ◌/◌, ◌%◌, ◌<◌, Bool, true, false, ◌&&◌, ◌||◌, not, cond, List, [], ◌∷◌, ◌++◌, map, length, get_or, take, drop, Option, Some, None, refl, sym, ap, ◌∙◌, subst, arith, inl, inr, nat_eq, nat_lt}
 use Rattle.std.specs.List.{list_all, list_any}
 use Rattle.std.specs.Option.{option_map}
 use Rattle.std.proofs.lemmas.Bool.{and_parts, eq-eqb, eqb-true, eqb-false, ne_eqb, ltb-true, cases_eq, or_left, or_right, or_from}
-use Rattle.std.proofs.lemmas.List.{drop_more, drop_all, map-append, take_more, take_all}
+use Rattle.std.proofs.lemmas.List.{drop_more, map-append, take_more}
 use Rattle.std.proofs.lemmas.List.Folds.{list_any-append}
 use Rattle.cnf_base.specs.declared.literal.Lit.{Lit}
 use Rattle.cnf_base.specs.Literals.{variable, negation, same_lit, has_lit, Clause, are_below}
 use Rattle.cnf_base.specs.Units.{Look, Falsified, OneOpen, Loose, open_lits, look_of, look}
 use Rattle.cnf_base.specs.Logs.{clause_of, at_look, at_hint, hint_fault, distinct_vars}
+use Rattle.cnf_base.proofs.LitLemmas.{variable-negation}
 use Rattle.log_check.specs.Scans.{open_then, has_var, is_fresh}
 
 parity : (n : ℕ) → (n % 2 ≡ 0) ⊎ (n % 2 ≡ 1)
 parity n = search arith
-
--- the variable of the other literal
-pub variable-negation : (l : Lit) → variable (negation l) ≡ variable l
-variable-negation l = at (nat_eq (l.0 % 2) 0) refl
-  where
-    at : (b : Bool) → nat_eq (l.0 % 2) 0 ≡ b → cond b (l.0 + 1) (l.0 - 1) / 2 ≡ l.0 / 2
-    at true e = omega (arith, eqb-true (l.0 % 2) 0 e)
-    at false e = omega (arith, eqb-false (l.0 % 2) 0 e)
 
 pub negation_within : (l : Lit) (vars : ℕ) → variable l < vars → variable (negation l) < vars
 negation_within l vars h = subst (λ n. n < vars) (sym (variable-negation l)) h
@@ -236,7 +229,3 @@ assumes_more vars lits trail later i d within a fresh is = record {
 
 pub assumes_no_more : (vars : ℕ) (lits trail : List Lit) (i : ℕ) (d : Lit) → i < length lits → Assumes vars lits i trail → is_fresh vars trail (get_or lits i d) ≡ false → false ≡ (are_below vars lits && distinct_vars lits)
 assumes_no_more vars lits trail i d within a stale = ap (λ b. b && are_fresh vars (take (i + 1) lits) (drop (i + 1) lits)) (sym stale) ∙ fresh_at vars lits trail i d within a
-
-pub assumes_all : (vars : ℕ) (lits trail : List Lit) (i : ℕ) → length lits ≤ i → Assumes vars lits i trail → (true ≡ (are_below vars lits && distinct_vars lits)) × (trail ≡ map negation lits)
-assumes_all vars lits trail i end a =
-    (ap (are_fresh vars (take i lits)) (sym (drop_all i lits end)) ∙ a.fresh, a.trail_is ∙ ap (map negation) (take_all i lits end))

@@ -282,9 +282,6 @@ is_live_at vars es lits last id n t has = live_is_found (shown lits es) id ∙ a
 pub no_live : (es : List Entry) (lits : List Lit) (id : ℕ) → NoneHas es id → is_live (shown lits es) id ≡ false
 no_live es lits id none = live_is_found (shown lits es) id ∙ ap is_some (none_found lits es id none)
 
-pub some_below : (vars : ℕ) (lits : List Lit) (es : List Entry) (n : ℕ) (o : Option Clause) → are_below vars lits ≡ true → o ≡ clause_at lits es n → (c : Clause) → o ≡ Some c → are_below vars c ≡ true
-some_below vars lits es n o below is c e = clause_at_below vars lits es n c below (sym is ∙ e)
-
 pub copied_below : (vars : ℕ) (lits : List Lit) (es : List Entry) (n : ℕ) (o : Option (Bor (List Lit))) → are_below vars lits ≡ true → option_copied o ≡ clause_at lits es n → IfSome o (λ clause. IsTrue (are_below vars clause.now))
 copied_below vars lits es n None below is = tt
 copied_below vars lits es n (Some c) below is = clause_at_below vars lits es n c.now below (sym is)

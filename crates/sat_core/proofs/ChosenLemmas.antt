@@ -1,11 +1,11 @@
 -- Half of the lessons, of those that may go.
-use Rattle.std.proofs.Common.{◌≡◌, ℕ, zero, suc, ◌+◌, ◌/◌, ◌<◌, ◌≤◌, min, Bool, true, false, cond, ◌&&◌, nat_eq, List, [], ◌∷◌, ◌++◌, length, take, get_or, refl, sym, ap, ◌∙◌, subst, arith, inl, inr, length-take}
+use Rattle.std.proofs.Common.{◌≡◌, ℕ, zero, suc, ◌+◌, ◌/◌, ◌<◌, ◌≤◌, min, Bool, true, false, cond, nat_eq, List, [], ◌∷◌, ◌++◌, length, take, get_or, refl, sym, ap, ◌∙◌, subst, arith, inl, inr, length-take}
 use Rattle.std.specs.Prelude.{Result, Ok, Err, IfOk}
 use Rattle.std.specs.List.{filter, count_by, sum_by}
 use Rattle.std.specs.List.Sorted.{IsPermutation}
-use Rattle.std.proofs.lemmas.Bool.{and_parts, and_from, cases_eq, cases_lt}
-use Rattle.std.proofs.lemmas.List.{append-nil, length-map, take_all}
-use Rattle.std.proofs.lemmas.List.Sums.{count_by_more_no, count_by_more_yes, length-filter, sum_by-cons}
+use Rattle.std.proofs.lemmas.Bool.{and_parts, cases_eq, cases_lt}
+use Rattle.std.proofs.lemmas.List.{length-map, take_all}
+use Rattle.std.proofs.lemmas.List.Sums.{length-filter, sum_by-cons}
 use Rattle.std.proofs.lemmas.List.Sorted.{length_permutation, sum_by-IsPermutation}
 use Rattle.clause_arena.specs.declared.ClauseRef.{ClauseRef}
 use Rattle.clause_arena.specs.Clauses.{Live, is_live, places}
@@ -124,39 +124,9 @@ filter_suc p (r ∷ rs) (suc i) lt = at (p r) (filter_suc p rs i (omega arith))
     at true e = ap (λ xs. r ∷ xs) e
     at false e = e
 
-filter_next : (p : ClauseRef → Bool) (refs : List ClauseRef) (i : ℕ) → i < length refs → filter p (take (i + 1) refs) ≡ filter p (take i refs) ++ cond (p (get_or refs i (record { 0 = 0 }))) (get_or refs i (record { 0 = 0 }) ∷ []) []
-filter_next p refs i lt = let e : i + 1 ≡ suc i = omega arith in ap (λ n. filter p (take n refs)) e ∙ filter_suc p refs i lt
-
 clauses_more : (idle : List Idle) (x : Idle) → clauses_of (idle ++ x ∷ []) ≡ clauses_of idle ++ x.clause ∷ []
 clauses_more [] x = refl
 clauses_more (y ∷ ys) x = ap (λ rs. y.clause ∷ rs) (clauses_more ys x)
-
--- an idle lesson, another lesson, another clause
-pub finds_idle : (n : ℕ) (t : Seen) (cs : List Live) (refs : List ClauseRef) (i : ℕ) (idle : List Idle) (lessons : ℕ) (x : Idle) → i < length refs → x.clause ≡ get_or refs i (record { 0 = 0 }) → is_lesson n cs (get_or refs i (record { 0 = 0 })).0 ≡ true → is_idle t cs (get_or refs i (record { 0 = 0 })).0 ≡ true → IsFinding n t cs refs i idle lessons → IsFinding n t cs refs (i + 1) (idle ++ x ∷ []) (lessons + 1)
-finds_idle n t cs refs i idle lessons x lt is lesson may h = record {
-  found = clauses_more idle x ∙ ap (λ rs. rs ++ x.clause ∷ []) h.found ∙ ap (λ r. filter (λ (r : ClauseRef). is_idle_lesson n t cs r.0) (take i refs) ++ r ∷ []) is
-      ∙ sym (filter_next (λ (r : ClauseRef). is_idle_lesson n t cs r.0) refs i lt ∙ ap (λ b. filter (λ (r : ClauseRef). is_idle_lesson n t cs r.0) (take i refs) ++ cond b (get_or refs i (record { 0 = 0 }) ∷ []) []) (and_from (is_lesson n cs (get_or refs i (record { 0 = 0 })).0) (is_idle t cs (get_or refs i (record { 0 = 0 })).0) lesson may));
-  count = ap (λ k. k + 1) h.count ∙ sym (count_by_more_yes (λ (r : ClauseRef). is_lesson n cs r.0) refs i (record { 0 = 0 }) lt lesson);
-  few = let k = h.few in omega arith;
-}
-
-pub finds_lesson : (n : ℕ) (t : Seen) (cs : List Live) (refs : List ClauseRef) (i : ℕ) (idle : List Idle) (lessons : ℕ) → i < length refs → is_lesson n cs (get_or refs i (record { 0 = 0 })).0 ≡ true → is_idle t cs (get_or refs i (record { 0 = 0 })).0 ≡ false → IsFinding n t cs refs i idle lessons → IsFinding n t cs refs (i + 1) idle (lessons + 1)
-finds_lesson n t cs refs i idle lessons lt lesson busy h = record {
-  found = h.found ∙ sym (filter_next (λ (r : ClauseRef). is_idle_lesson n t cs r.0) refs i lt ∙ ap (λ b. filter (λ (r : ClauseRef). is_idle_lesson n t cs r.0) (take i refs) ++ cond b (get_or refs i (record { 0 = 0 }) ∷ []) []) (ap (λ b. is_lesson n cs (get_or refs i (record { 0 = 0 })).0 && b) busy ∙ and_false (is_lesson n cs (get_or refs i (record { 0 = 0 })).0)) ∙ append-nil (filter (λ (r : ClauseRef). is_idle_lesson n t cs r.0) (take i refs)));
-  count = ap (λ k. k + 1) h.count ∙ sym (count_by_more_yes (λ (r : ClauseRef). is_lesson n cs r.0) refs i (record { 0 = 0 }) lt lesson);
-  few = let k = h.few in omega arith;
-}
-  where
-    and_false : (b : Bool) → (b && false) ≡ false
-    and_false true = refl
-    and_false false = refl
-
-pub finds_other : (n : ℕ) (t : Seen) (cs : List Live) (refs : List ClauseRef) (i : ℕ) (idle : List Idle) (lessons : ℕ) → i < length refs → is_lesson n cs (get_or refs i (record { 0 = 0 })).0 ≡ false → IsFinding n t cs refs i idle lessons → IsFinding n t cs refs (i + 1) idle lessons
-finds_other n t cs refs i idle lessons lt given h = record {
-  found = h.found ∙ sym (filter_next (λ (r : ClauseRef). is_idle_lesson n t cs r.0) refs i lt ∙ ap (λ b. filter (λ (r : ClauseRef). is_idle_lesson n t cs r.0) (take i refs) ++ cond b (get_or refs i (record { 0 = 0 }) ∷ []) []) (ap (λ b. b && is_idle t cs (get_or refs i (record { 0 = 0 })).0) given) ∙ append-nil (filter (λ (r : ClauseRef). is_idle_lesson n t cs r.0) (take i refs)));
-  count = h.count ∙ sym (count_by_more_no (λ (r : ClauseRef). is_lesson n cs r.0) refs i (record { 0 = 0 }) lt given);
-  few = let k = h.few in omega arith;
-}
 
 pub all_found : (n : ℕ) (t : Seen) (cs : List Live) (refs : List ClauseRef) (i : ℕ) (idle : List Idle) (lessons : ℕ) → length refs ≤ i → places_of refs ≡ places cs → IsFinding n t cs refs i idle lessons → AreIdle n t cs (clauses_of idle) lessons
 all_found n t cs refs i idle lessons le all h = record {

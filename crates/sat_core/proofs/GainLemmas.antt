@@ -8,7 +8,7 @@ use Rattle.cnf_base.specs.declared.literal.Lit.{Lit}
 use Rattle.cnf_base.specs.Literals.{variable, negation, same_lit, has_lit, are_below, Clause}
 use Rattle.cnf_base.specs.Logs.{distinct_vars}
 use Rattle.cnf_base.specs.Lessons.{are_distinct}
-use Rattle.cnf_base.proofs.Closed.{same_lit-is, same_lit-refl}
+use Rattle.cnf_base.proofs.LitLemmas.{same_lit-refl, same_lit-is}
 use Rattle.clause_arena.specs.declared.ClauseRef.{ClauseRef}
 use Rattle.clause_arena.specs.Clauses.{Live, is_live, lits_of, clause_at, added}
 use Rattle.clause_arena.specs.Words.{clauses_in}
@@ -18,6 +18,7 @@ use Rattle.watch_lists.specs.Trails.{Seen}
 use Rattle.watch_lists.specs.Rows.{lit_in}
 use Rattle.watch_lists.specs.Fits.{Fits, IsClause, KeepsClauses, SameAttached, attached_in}
 use Rattle.watch_lists.specs.Attaching.{CanBeAttached, attached_entries}
+use Rattle.watch_lists.proofs.ClauseLemmas.{keeps_same}
 use Rattle.decide_order.specs.Rankings.{is_held}
 use Rattle.sat_core.specs.declared.search.Search.{Search}
 use Rattle.sat_core.specs.Standing.{IsFact, IsPlaced, ArePlaced}
@@ -120,9 +121,6 @@ placed_added t u cs ds r id lits keeps fresh stays up new placed x live = at (na
     at true e h = let P : ℕ → Type 0 = λ y. IsPlaced u ds y in subst P (eqb-true r x e) new
     at false e h = placed_one t u cs ds r id lits x keeps (stays x (λ s. eqb-false r x e (sym s))) up (λ s. eqb-false r x e (sym s)) (placed x h)
 
-pub keeps_all : (cs : List Live) → KeepsClauses cs cs
-keeps_all cs = record { places = refl; live = λ x. refl; id = λ x. refl; lits = λ x m. refl; long = λ x. refl }
-
 -- the order is as good for a trail that has grown
 pub ordered_on : (s : Search) (u : Seen) → IsOrdered s → u.vars ≡ s.trail.vars → ((v : ℕ) → is_assigned s.trail.entries v ≡ true → is_assigned u.entries v ≡ true) → (t : Search) → t ≡ record s { arena = t.arena; trail = u } → IsOrdered t
 ordered_on s u o vars grown t same = record {
@@ -191,7 +189,7 @@ pub implied_is_ready : (old new : Search) (r : ClauseRef) (id : ℕ) (lits : Cla
     → (1 < length lits → ⊥) → lit ≡ lit_in lits 0 → IsAsserted old.trail.entries lits → Fits new.trail (clauses_in new.arena) → new.trail ≡ record old.trail { entries = old.trail.entries ++ entry_for old.trail.entries lit (Some r) ∷ [] } → ((x : ℕ) → attached_in new.trail (clauses_in new.arena) x ≡ attached_in old.trail (clauses_in new.arena) x) → IsReady new
 implied_is_ready old new r id lits lit ready same cs_is fresh before short lit_is asserted fits trail attached = record {
   fits = fits;
-  placed = placed_added old.trail new.trail (clauses_in old.arena) (clauses_in new.arena) r.0 id lits (let P : List Live → Type 0 = λ es. KeepsClauses es (clauses_in new.arena) in subst P cs_is (keeps_all (clauses_in new.arena))) fresh stays (λ l h. ap (λ es. true_by 0 es l) entries ∙ true_by-append 0 old.trail.entries (entry_for old.trail.entries lit (Some r) ∷ []) l h) (inr new_one) ready.placed;
+  placed = placed_added old.trail new.trail (clauses_in old.arena) (clauses_in new.arena) r.0 id lits (let P : List Live → Type 0 = λ es. KeepsClauses es (clauses_in new.arena) in subst P cs_is (keeps_same (clauses_in new.arena))) fresh stays (λ l h. ap (λ es. true_by 0 es l) entries ∙ true_by-append 0 old.trail.entries (entry_for old.trail.entries lit (Some r) ∷ []) l h) (inr new_one) ready.placed;
   ordered = ordered_on old new.trail ready.ordered (ap (λ (t : Seen). t.vars) trail) (λ v h. ap (λ es. is_assigned es v) entries ∙ assigned_append old.trail.entries (entry_for old.trail.entries lit (Some r) ∷ []) v h) new same;
 }
   where

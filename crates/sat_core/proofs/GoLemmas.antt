@@ -4,7 +4,7 @@ use Rattle.std.specs.List.{list_any}
 use Rattle.std.proofs.lemmas.Bool.{and_parts, or_parts, or_cases, or_left, or_right, both_ways, eqb-true, eq-eqb, ltb-true, not-true, false_from_ne_true, lt-ltb, le-ltb}
 use Rattle.cnf_base.specs.declared.literal.Lit.{Lit}
 use Rattle.cnf_base.specs.Literals.{variable, same_lit, has_lit}
-use Rattle.cnf_base.proofs.Closed.{same_lit-is}
+use Rattle.cnf_base.proofs.LitLemmas.{same_lit-is}
 use Rattle.clause_arena.specs.declared.ClauseRef.{ClauseRef}
 use Rattle.clause_arena.specs.Clauses.{Live, is_live, lits_of, place_of, without}
 use Rattle.clause_arena.specs.Words.{clauses_in}

@@ -1,6 +1,5 @@
 -- What packing leaves of the search and of the clauses beside the log.
 use Rattle.std.proofs.Common.{◌≡◌, ℕ, true, ◌||◌, List, [], ◌∷◌, map, Some, refl, sym, ap, ◌∙◌, subst, inl, inr, nat_eq}
-use Rattle.cnf_base.specs.declared.literal.Lit.{Lit}
 use Rattle.cnf_base.specs.Literals.{variable, has_lit, Clause}
 use Rattle.cnf_base.specs.Logs.{clause_of}
 use Rattle.clause_arena.specs.Clauses.{Live, is_live, id_of, lits_of}
@@ -13,6 +12,7 @@ use Rattle.watch_lists.specs.Entries.{is_assigned, true_by}
 use Rattle.watch_lists.specs.Trails.{Seen}
 use Rattle.watch_lists.specs.Fits.{Fits}
 use Rattle.watch_lists.specs.Moving.{KeepsAttached, moved_entry, moved_trail}
+use Rattle.watch_lists.proofs.PackedLemmas.{true_by-moved}
 use Rattle.conflict_learn.specs.Resolvents.{IsTwin}
 use Rattle.sat_core.specs.declared.search.Search.{Search}
 use Rattle.sat_core.specs.Standing.{IsCovered, IsPlaced, ArePlaced}
@@ -63,10 +63,6 @@ assigned_moved : (ms : List Move) (es : List Entry) (v : ℕ) → is_assigned (m
 assigned_moved ms [] v = refl
 assigned_moved ms (e ∷ es) v = ap (λ b. nat_eq (variable e.lit) v || b) (assigned_moved ms es v)
 
-true_moved : (ms : List Move) (v : ℕ) (es : List Entry) (l : Lit) → true_by v (map (moved_entry ms) es) l ≡ true_by v es l
-true_moved ms v [] l = refl
-true_moved ms v (e ∷ es) l = rw (true_moved ms v es l) refl
-
 placed_packed : (t u : Seen) (cs : List Live) → Falls cs → u.entries ≡ map (moved_entry (moves_of cs)) t.entries → KeepsAttached t cs (moves_of cs) u (packed_by (moves_of cs) cs) → ArePlaced t cs → ArePlaced u (packed_by (moves_of cs) cs)
 placed_packed t u cs falls entries keeps placed y live = at (came (moves_of cs) cs y falls live)
   where
@@ -75,7 +71,7 @@ placed_packed t u cs falls entries keeps placed y live = at (came (moves_of cs) 
       where
         is : IsPlaced t cs k.from → IsPlaced u (packed_by (moves_of cs) cs) y
         is (inl a) = inl (keeps.moved k.from y (named_at cs k.from falls k.live ∙ ap (λ q. Some q) k.to) ∙ a)
-        is (inr fact) = inr (record { lit = fact.lit; alone = k.lits ∙ fact.alone; true_at_0 = ap (λ es. true_by 0 es fact.lit) entries ∙ true_moved (moves_of cs) 0 t.entries fact.lit ∙ fact.true_at_0 })
+        is (inr fact) = inr (record { lit = fact.lit; alone = k.lits ∙ fact.alone; true_at_0 = ap (λ es. true_by 0 es fact.lit) entries ∙ true_by-moved (moves_of cs) 0 t.entries fact.lit ∙ fact.true_at_0 })
 
 -- the search behind packing
 pub packed_is_ready : (old new : Search) (ms : List Move) → Falls (clauses_in old.arena) → IsReady old → new ≡ record old { arena = new.arena; trail = new.trail } → ms ≡ moves_of (clauses_in old.arena) → clauses_in new.arena ≡ packed_by (moves_of (clauses_in old.arena)) (clauses_in old.arena) → new.trail ≡ moved_trail ms old.trail → Fits new.trail (clauses_in new.arena) → KeepsAttached old.trail (clauses_in old.arena) ms new.trail (clauses_in new.arena) → IsReady new

@@ -1,6 +1,6 @@
 -- Sheets that serve give labels that obey the rules.
-use Rattle.std.proofs.Common.{◌≡◌, ℕ, suc, ◌+◌, Bool, true, false, cond, not, List, [], ◌∷◌, map, Some, refl, sym, ap, ◌∙◌, arith}
-use Rattle.std.specs.List.{list_all, filter, slice_get, enumerate_from}
+use Rattle.std.proofs.Common.{◌≡◌, ℕ, suc, ◌+◌, Bool, true, not, List, [], ◌∷◌, map, Some, refl, sym, ap, ◌∙◌, arith}
+use Rattle.std.specs.List.{list_all, slice_get, enumerate_from}
 use Rattle.std.proofs.lemmas.Bool.{and_from}
 use Rattle.std.proofs.lemmas.List.{length-map}
 use Rattle.las_base.specs.declared.Kind.{Kind}
@@ -9,6 +9,7 @@ use Rattle.las_base.specs.declared.Cell.{Cell}
 use Rattle.las_base.specs.Axes.{has_part, same_pauli}
 use Rattle.las_base.specs.Cells.{cell_before}
 use Rattle.las_base.proofs.Rising.{filter_all}
+use Rattle.las_base.proofs.Lists.{filter_passes}
 use Rattle.grid_box.specs.Legs.{legs}
 use Rattle.grid_box.specs.PipeRules.{is_bare, named_cells, everywhere, has_port_pipe, y_cube_has_one_k_leg, has_no_three_axes, colours_match, port_shows_z}
 use Rattle.grid_box.specs.Sheets.{agree, sheets_join_at, y_sheets_match, ports_spell}
@@ -18,15 +19,6 @@ use Rattle.sheet_flow.specs.FromSheets.{pauli_at, labels_from, SheetsGiveLabels}
 use Rattle.zx_graph.proofs.NumberLemmas.{at_all}
 use Rattle.sheet_flow.proofs.NodeLabels.{nodes_pass, edges_pass, labelled}
 use Rattle.sheet_flow.proofs.AtCells.{spider_passes, y_passes, port_passes}
-
--- a filter passes its test
-filter_passes : {X : Type 0} (f : X → Bool) (xs : List X) → list_all f (filter f xs) ≡ true
-filter_passes f [] = refl
-filter_passes f (x ∷ xs) = at (f x) refl (filter_passes f xs)
-  where
-    at : (b : Bool) → f x ≡ b → list_all f (filter f xs) ≡ true → list_all f (cond b (x ∷ filter f xs) (filter f xs)) ≡ true
-    at true e ih = and_from (f x) (list_all f (filter f xs)) e ih
-    at false e ih = ih
 
 each_letter : (test : ℕ × Pauli → Bool) (first : ℕ) (word : List Pauli) → ((q : ℕ) (letter : Pauli) → slice_get word q ≡ Some letter → test (first + q, letter) ≡ true) → all_pass (map test (enumerate_from first word)) ≡ true
 each_letter test first [] h = refl

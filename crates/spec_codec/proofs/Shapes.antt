@@ -3,7 +3,7 @@ use Rattle.std.proofs.Common.{◌≡◌, ℕ, zero, suc, ◌-◌, ◌<◌, ◌�
 use Rattle.std.specs.Prelude.{option_map, option_and_then, IsAscii}
 use Rattle.std.specs.List.{list_all}
 use Rattle.std.specs.Option.{option_map_or}
-use Rattle.std.proofs.lemmas.Bool.{and_parts, le-leb, ltb-true, leb-true}
+use Rattle.std.proofs.lemmas.Bool.{and_parts, le-leb, leb-true}
 use Rattle.std.proofs.lemmas.List.Folds.{list_all-map}
 use Rattle.std.proofs.lemmas.Str.{chars-IsAscii}
 use Rattle.serde_json.specs.Data.{Data}
@@ -21,6 +21,7 @@ use Rattle.las_base.specs.declared.Size.{Size}
 use Rattle.las_base.specs.declared.Port.{Port}
 use Rattle.las_base.specs.Cells.{holds, low_cell}
 use Rattle.las_base.specs.Jobs.{within_limits, port_fits}
+use Rattle.las_base.proofs.Indices.{held_parts}
 use Rattle.las_spec.specs.Written.{port_written}
 use Rattle.spec_codec.specs.Documents.{axis_text, direction_text, pauli_letter, word_of, cell_of, size_of, port_in, triples}
 use Rattle.las_spec.specs.Texts.{letter_of}
@@ -59,14 +60,8 @@ limits_near s e =
     let r = and_parts _ _ q.1 in
     (leb-true s.i 32 (and_parts _ _ p.0).1, leb-true s.j 32 (and_parts _ _ q.0).1, leb-true s.k 32 (and_parts _ _ r.0).1)
 
-held_below : (s : Size) (c : Cell) → holds s c ≡ true → (c.i < s.i) × (c.j < s.j) × (c.k < s.k)
-held_below s c e =
-    let p = and_parts _ _ e in
-    let q = and_parts _ _ p.1 in
-    (ltb-true c.i s.i p.0, ltb-true c.j s.j q.0, ltb-true c.k s.k q.1)
-
 pub held_near : (s : Size) (c : Cell) → AreNear s.i s.j s.k → holds s c ≡ true → AreNear c.i c.j c.k
-held_near s c near e = let p = held_below s c e in (omega (arith, near.0, p.0), omega (arith, near.1, p.1), omega (arith, near.2, p.2))
+held_near s c near e = let p = held_parts s c e in (omega (arith, near.0, p.0), omega (arith, near.1, p.1), omega (arith, near.2, p.2))
 
 fits_near : (s : Size) (c : Cell) (a : Axis) (w : Way) → AreNear s.i s.j s.k → option_map_or (holds s) (low_cell c a w) false ≡ true → AreNear c.i c.j c.k
 fits_near s c a Plus near e = held_near s c near e
@@ -74,17 +69,17 @@ fits_near s c I Minus near e = at (nat_eq c.i 0) e
   where
     at : (b : Bool) → option_map_or (holds s) (cond b None (Some (record c { i = c.i - 1 }))) false ≡ true → AreNear c.i c.j c.k
     at true e = absurd (cc)
-    at false e = let p = held_below s (record c { i = c.i - 1 }) e in (omega (arith, near.0, p.0), omega (arith, near.1, p.1), omega (arith, near.2, p.2))
+    at false e = let p = held_parts s (record c { i = c.i - 1 }) e in (omega (arith, near.0, p.0), omega (arith, near.1, p.1), omega (arith, near.2, p.2))
 fits_near s c J Minus near e = at (nat_eq c.j 0) e
   where
     at : (b : Bool) → option_map_or (holds s) (cond b None (Some (record c { j = c.j - 1 }))) false ≡ true → AreNear c.i c.j c.k
     at true e = absurd (cc)
-    at false e = let p = held_below s (record c { j = c.j - 1 }) e in (omega (arith, near.0, p.0), omega (arith, near.1, p.1), omega (arith, near.2, p.2))
+    at false e = let p = held_parts s (record c { j = c.j - 1 }) e in (omega (arith, near.0, p.0), omega (arith, near.1, p.1), omega (arith, near.2, p.2))
 fits_near s c K Minus near e = at (nat_eq c.k 0) e
   where
     at : (b : Bool) → option_map_or (holds s) (cond b None (Some (record c { k = c.k - 1 }))) false ≡ true → AreNear c.i c.j c.k
     at true e = absurd (cc)
-    at false e = let p = held_below s (record c { k = c.k - 1 }) e in (omega (arith, near.0, p.0), omega (arith, near.1, p.1), omega (arith, near.2, p.2))
+    at false e = let p = held_parts s (record c { k = c.k - 1 }) e in (omega (arith, near.0, p.0), omega (arith, near.1, p.1), omega (arith, near.2, p.2))
 
 pub port_near : (s : Size) (p : Port) → AreNear s.i s.j s.k → port_fits s p ≡ true → AreNear p.place.i p.place.j p.place.k
 port_near s p near e = fits_near s p.place p.axis p.way near e

@@ -4,6 +4,7 @@ use Rattle.std.proofs.lemmas.Bool.{both_ways, cases_eq, leb-true, and_parts, or_
 use Rattle.std.proofs.lemmas.List.{length-set, get_or-set_same, get_or-set_other, length_push, get_or_append_left}
 use Rattle.cnf_base.specs.declared.literal.Lit.{Lit}
 use Rattle.cnf_base.specs.Literals.{negation, variable, same_lit}
+use Rattle.cnf_base.proofs.LitLemmas.{same_lit-is}
 use Rattle.clause_arena.specs.declared.ClauseRef.{ClauseRef}
 use Rattle.clause_arena.specs.Clauses.{Live, clause_at, is_live, lits_of, place_of, with_link, put_link}
 use Rattle.clause_arena.proofs.Updates.{with_clause-other, with_clause-same, with_clause-live, put_link-place, linked-lits}
@@ -14,7 +15,6 @@ use Rattle.watch_lists.specs.Rows.{lit_in, watch, IsRow, put, Lists}
 use Rattle.watch_lists.specs.Guards.{AreGuarded}
 use Rattle.watch_lists.specs.Fits.{heads_in, attached_in, IsClause, AreOthersFalse, FitsWith, Fits, KeepsClauses}
 use Rattle.watch_lists.specs.Attaching.{IsFalseNow, CanBeAttached}
-use Rattle.watch_lists.proofs.LitLemmas.{same_lit-is}
 use Rattle.watch_lists.proofs.EntryLemmas.{at_true, value_none, pushed_true, last_level-push, pushed_negation, value_false}
 use Rattle.watch_lists.proofs.TrailLemmas.{true_by-true, true_by-depth}
 use Rattle.watch_lists.proofs.RowLemmas.{put-same, put-other}

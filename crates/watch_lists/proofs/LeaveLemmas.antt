@@ -20,7 +20,7 @@ use Rattle.watch_lists.proofs.ClauseLemmas.{keeps_same, keeps_both}
 use Rattle.watch_lists.proofs.OverLemmas.{reasons_kept}
 use Rattle.watch_lists.proofs.FitLemmas.{fits_itself, fits_closed}
 use Rattle.std.specs.Option.{IfSome}
-use Rattle.watch_lists.proofs.DetachLemmas.{seek_before, list_short, same_want, counted, listing_of, IsCut, cut_out}
+use Rattle.watch_lists.proofs.DetachLemmas.{seek_before, list_short, same_want, counted, IsCut, cut_out}
 
 pub keeps_itself : (t : Seen) (cs : List Live) → KeepsBut t cs t cs
 keeps_itself t cs = record { same = refl; keeps = keeps_same cs; lits = λ x. refl }
@@ -185,13 +185,6 @@ leave_ends want t cs f marks u ds before w = record { listing = same_want (witho
 pub record AllLeft (want : ℕ → ℕ → ℕ) (t : Seen) (cs : List Live) (n : ℕ) (marks : List Bool) (u : Seen) (ds : List Live) : Type 0 where
   pub listing : IsListing (without_below want n marks) u ds
   pub keeps : KeepsBut t cs u ds
-
-pub all_begin : (t : Seen) (cs : List Live) (marks : List Bool) → Fits t cs → AllLeft (wanted (attached_in t cs) cs) t cs 0 marks t cs
-all_begin t cs marks f =
-    record {
-      listing = same_want (wanted (attached_in t cs) cs) (without_below (wanted (attached_in t cs) cs) 0 marks) t cs (λ l x. rw (le-ltb l 0 (omega arith)) refl) (listing_of (attached_in t cs) t cs f);
-      keeps = keeps_itself t cs;
-    }
 
 pub all_go_on : (want : ℕ → ℕ → ℕ) (t : Seen) (cs : List Live) (n : ℕ) (marks : List Bool) (u : Seen) (ds : List Live) (v : Seen) (es : List Live) → AllLeft want t cs n marks u ds → HasLeft (count_in u ds) u ds n marks v es → AllLeft want t cs (suc n) marks v es
 all_go_on want t cs n marks u ds v es a h =

@@ -1,15 +1,13 @@
 -- The edges of a graph, pipe by pipe.
-use Rattle.std.proofs.Common.{◌≡◌, ℕ, Bool, true, not, List, map, Option, Some, None, refl, sym, ap, ap₂, ◌∙◌, arith, slice_index_or}
+use Rattle.std.proofs.Common.{◌≡◌, ℕ, Bool, true, not, List, map, Option, Some, None, refl, sym, ap, ap₂, ◌∙◌, slice_index_or}
 use Rattle.std.specs.List.{filter_map}
 use Rattle.std.specs.Option.{option_map}
 use Rattle.las_base.specs.declared.Axis.{Axis}
-use Rattle.las_base.specs.declared.Axis.TheVariants.{I, J, K}
 use Rattle.las_base.specs.declared.Kind.{Kind}
 use Rattle.las_base.specs.declared.Cell.{Cell}
-use Rattle.las_base.specs.declared.Size.{Size}
 use Rattle.las_base.specs.Axes.{same_kind}
 use Rattle.las_base.specs.Cells.{above, holds, widened, index}
-use Rattle.las_base.proofs.Indices.{held_parts, held_from}
+use Rattle.las_base.proofs.Widened.{held_wide, held_above}
 use Rattle.grid_box.specs.Drawings.{Pipe, Drawing, pipe_at, kinds_at}
 use Rattle.grid_box.specs.LookUps.{pipe_of, pipes_along}
 use Rattle.grid_box.proofs.LegLemmas.{found_at, map-filter_map}
@@ -18,14 +16,6 @@ use Rattle.zx_graph.specs.Graphs.{edge_of, node_number}
 use Rattle.zx_graph.specs.Numbers.{AreNumbers}
 use Rattle.zx_graph.proofs.LegLemmas.{legged_low, legged_high}
 use Rattle.zx_graph.proofs.NumberLemmas.{number_is}
-
-pub in_wide : (s : Size) (c : Cell) → holds s c ≡ true → holds (widened s) c ≡ true
-in_wide s c h = let b = held_parts s c h in held_from (widened s) c (omega arith) (omega arith) (omega arith)
-
-pub above_in_wide : (s : Size) (a : Axis) (c : Cell) → holds s c ≡ true → holds (widened s) (above a c) ≡ true
-above_in_wide s I c h = let b = held_parts s c h in held_from (widened s) (above I c) (omega arith) (omega arith) (omega arith)
-above_in_wide s J c h = let b = held_parts s c h in held_from (widened s) (above J c) (omega arith) (omega arith) (omega arith)
-above_in_wide s K c h = let b = held_parts s c h in held_from (widened s) (above K c) (omega arith) (omega arith) (omega arith)
 
 -- the kinds that are found tell the pipe
 pub pipe_of_kinds : (d : Drawing) (a : Axis) (c : Cell) → pipe_of a c (kinds_at d a c) ≡ pipe_at d a c
@@ -49,8 +39,8 @@ pub edge_is : (d : Drawing) (numbers : List ℕ) (a : Axis) (c : Cell) (k : Kind
     → Some (record { low = slice_index_or numbers (index (widened d.size) c) 0; high = slice_index_or numbers (index (widened d.size) (above a c)) 0; had = had }) ≡ option_map (edge_of d) (pipe_at d a c)
 edge_is d numbers a c k had are held e differ =
     let pipe = pipe_found d a c k e in
-    let low = number_is d numbers c are (in_wide d.size c held) (legged_low d a c (record { axis = a; cell = c; low = k.0; high = k.1 }) pipe) in
-    let high = number_is d numbers (above a c) are (above_in_wide d.size a c held) (legged_high d a c (record { axis = a; cell = c; low = k.0; high = k.1 }) pipe) in
+    let low = number_is d numbers c are (held_wide d.size c held) (legged_low d a c (record { axis = a; cell = c; low = k.0; high = k.1 }) pipe) in
+    let high = number_is d numbers (above a c) are (held_above d.size a c held) (legged_high d a c (record { axis = a; cell = c; low = k.0; high = k.1 }) pipe) in
     ap₂ (λ m n. let x : Edge = record { low = m; high = n; had = had } in Some x) low high
     ∙ ap (λ b. let x : Edge = record { low = node_number d c; high = node_number d (above a c); had = b } in Some x) differ
     ∙ sym (ap (option_map (edge_of d)) pipe)

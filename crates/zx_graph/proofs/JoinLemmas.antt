@@ -8,12 +8,12 @@ use Rattle.las_base.specs.Cells.{same_cell, above, widened, index, holds}
 use Rattle.las_base.specs.Jobs.{Task}
 use Rattle.las_base.proofs.Blocks.{all_indexed}
 use Rattle.las_base.proofs.Same.{same_cell-is, same_cell-refl}
+use Rattle.las_base.proofs.Widened.{held_wide, held_above}
 use Rattle.grid_box.specs.Drawings.{Drawing}
 use Rattle.grid_box.specs.PipeRules.{named_cells}
 use Rattle.grid_box.proofs.LegLemmas.{found_at}
 use Rattle.zx_graph.specs.declared.nodes.Node.{Node}
 use Rattle.zx_graph.specs.Graphs.{first_index, is_legged, node_cells, nodes_of, node_number, sort_at, stands_for, EdgesJoinTheirCells}
-use Rattle.zx_graph.proofs.EdgeLemmas.{in_wide, above_in_wide}
 use Rattle.zx_graph.proofs.LegLemmas.{legged_low, legged_high}
 use Rattle.zx_graph.proofs.PipeLemmas.{pipe_held}
 
@@ -55,8 +55,8 @@ pub edges_join_their_cells : EdgesJoinTheirCells
 edges_join_their_cells t d a c p are e =
     let at = found_at d a c p e in
     let held : holds d.size c ≡ true = pipe_held d are a c p e in
-    let low : stands_for (nodes_of t d) (node_number d c) c = node_stands t d c (in_wide d.size c held) (legged_low d a c p e) in
-    let high : stands_for (nodes_of t d) (node_number d (above a c)) (above a c) = node_stands t d (above a c) (above_in_wide d.size a c held) (legged_high d a c p e) in (
+    let low : stands_for (nodes_of t d) (node_number d c) c = node_stands t d c (held_wide d.size c held) (legged_low d a c p e) in
+    let high : stands_for (nodes_of t d) (node_number d (above a c)) (above a c) = node_stands t d (above a c) (held_above d.size a c held) (legged_high d a c p e) in (
       subst (λ x. stands_for (nodes_of t d) (node_number d x) x) (sym at.1) low,
       subst (λ x. stands_for (nodes_of t d) (node_number d x) x) (ap₂ above (sym at.0) (sym at.1)) high,
     )

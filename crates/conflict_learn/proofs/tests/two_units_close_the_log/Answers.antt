@@ -2,13 +2,13 @@ use Rattle.std.proofs.Common.{◌≡◌, true, false, cond, List, [], ◌∷◌,
 use Rattle.std.proofs.lemmas.Bool.{eq-eqb, both_ways}
 use Rattle.cnf_base.specs.declared.literal.Lit.{Lit}
 use Rattle.cnf_base.specs.Literals.{has_lit, negation}
+use Rattle.cnf_base.proofs.LitLemmas.{has_lit-cases}
 use Rattle.clause_arena.specs.Clauses.{Live, added, clause_at, lits_of}
 use Rattle.clause_arena.specs.Words.{clauses_in}
 use Rattle.watch_lists.specs.declared.trail.Entry.{Entry}
 use Rattle.watch_lists.specs.Entries.{entry_for, is_true}
 use Rattle.watch_lists.specs.Trails.{Seen}
 use Rattle.watch_lists.proofs.EntryLemmas.{pushed_true}
-use Rattle.conflict_learn.proofs.LitLemmas.{has_lit-cases}
 use Rattle.conflict_learn.proofs.tests.two_units_close_the_log.Goals as goal
 
 pub imply-requires-clause-fits : goal.imply-requires-clause-fits

@@ -1,9 +1,10 @@
 use Rattle.std.proofs.Common.{rules, ◌≡◌, ◌-◌, ◌++◌, ◌∙◌, ap, List, true, string_bytes, ℕ}
 use Rattle.las_io.specs.Shelves.{FilesStay}
 use Rattle.las_io.proofs.Rises.{stays}
+use Rattle.las_io.proofs.Fetched.{told_before}
 use Rattle.clause_log.specs.Leaving.{stay_through}
 use Rattle.clause_log.specs.Pieces.{PieceComes, bytes_from, hand_in, is_one_line, reader_ahead}
-use Rattle.clause_log.proofs.PieceLemmas.{came_well, end_told, limit_told, log_kept, log_torn, place_after, told_back, torn_more, torn_told}
+use Rattle.clause_log.proofs.PieceLemmas.{came_well, end_told, limit_told, log_kept, log_torn, place_after, torn_more, torn_told}
 use Rattle.clause_log.proofs.step_reader.StepReader.next_step.Goals as goal
 
 pub returns-then-self-eq-LIMIT-clause-gives : goal.returns-then-self-eq-LIMIT-clause-gives
@@ -23,7 +24,7 @@ returns-then-is_empty-clause-gives g c =
     let both : List ℕ = c.extend_from_slice.new.self.items in
     let stays : FilesStay (g.H.Shelf.files f.shelf.now) (g.H.Shelf.files n.shelf.now) = stay_through (g.H.Shelf.files f.shelf.now) (g.H.Shelf.files s.shelf.now) (g.H.Shelf.files n.shelf.now) c.loop-count.invariant.files c.in_ok-take_piece.ensures.files in
     let log = log_torn (g.H.Shelf.files f.shelf.now) (string_bytes f.name) c.loop-count.torn.items hand both (hand_in f.piece.items f.at f.filled) s.taken f.taken (search rules) c.loop-count.invariant.log in
-    let comes = told_back (λ fs. PieceComes (bytes_from (string_bytes s.name) s.taken fs) n.piece.items n.filled) (g.H.Shelf.files f.shelf.now) (g.H.Shelf.files s.shelf.now) c.loop-count.invariant.files c.in_ok-take_piece.ensures.comes in
+    let comes = told_before (λ fs. PieceComes (bytes_from (string_bytes s.name) s.taken fs) n.piece.items n.filled) (g.H.Shelf.files f.shelf.now) (g.H.Shelf.files s.shelf.now) c.loop-count.invariant.files c.in_ok-take_piece.ensures.comes in
     end_told (g.H.Shelf.files f.shelf.now) (g.H.Shelf.files n.shelf.now) (string_bytes f.name) (string_bytes s.name) (string_bytes n.name) both (hand_in f.piece.items f.at f.filled) n.piece.items s.taken f.taken f.line n.line n.filled n.at n.taken stays (search rules) (search rules) (search rules) (search rules) (search rules) (search rules) comes (search rules) log
 
 pub returns-then-not-branch-clause-gives : goal.returns-then-not-branch-clause-gives
@@ -36,7 +37,7 @@ returns-then-not-branch-clause-gives g c =
     let joined : both ≡ c.loop-count.torn.items ++ hand = search rules in
     let all : is_one_line both ≡ true = ap is_one_line joined ∙ torn_more c.loop-count.torn.items hand c.loop-count.invariant.one_line (search rules) in
     let log = log_torn (g.H.Shelf.files f.shelf.now) (string_bytes f.name) c.loop-count.torn.items hand both (hand_in f.piece.items f.at f.filled) s.taken f.taken joined c.loop-count.invariant.log in
-    let comes = told_back (λ fs. PieceComes (bytes_from (string_bytes s.name) s.taken fs) n.piece.items n.filled) (g.H.Shelf.files f.shelf.now) (g.H.Shelf.files s.shelf.now) c.loop-count.invariant.files c.in_ok-take_piece.ensures.comes in
+    let comes = told_before (λ fs. PieceComes (bytes_from (string_bytes s.name) s.taken fs) n.piece.items n.filled) (g.H.Shelf.files f.shelf.now) (g.H.Shelf.files s.shelf.now) c.loop-count.invariant.files c.in_ok-take_piece.ensures.comes in
     torn_told (g.H.Shelf.files f.shelf.now) (string_bytes f.name) (string_bytes s.name) both (hand_in f.piece.items f.at f.filled) n.piece.items s.taken f.taken f.line n.line n.filled (reader_ahead (string_bytes n.name) (hand_in n.piece.items n.at n.filled) n.taken n.line (g.H.Shelf.files n.shelf.now)) (search rules) (search rules) (search rules) (search rules) comes all (search rules) log
 
 pub loop-count-preserved : goal.loop-count-preserved
@@ -48,7 +49,7 @@ loop-count-preserved g c =
     let both : List ℕ = c.extend_from_slice.new.self.items in
     let joined : both ≡ c.loop-count.torn.items ++ hand = search rules in
     let log = log_torn (g.H.Shelf.files f.shelf.now) (string_bytes f.name) c.loop-count.torn.items hand both (hand_in f.piece.items f.at f.filled) s.taken f.taken joined c.loop-count.invariant.log in
-    let comes = told_back (λ fs. PieceComes (bytes_from (string_bytes s.name) s.taken fs) n.piece.items n.filled) (g.H.Shelf.files f.shelf.now) (g.H.Shelf.files s.shelf.now) c.loop-count.invariant.files c.in_ok-take_piece.ensures.comes in
+    let comes = told_before (λ fs. PieceComes (bytes_from (string_bytes s.name) s.taken fs) n.piece.items n.filled) (g.H.Shelf.files f.shelf.now) (g.H.Shelf.files s.shelf.now) c.loop-count.invariant.files c.in_ok-take_piece.ensures.comes in
     record {
       same_shelf = search rules;
       name = search rules;
