@@ -15,8 +15,8 @@ use Rattle.las_base.proofs.Blocks.{all_cells}
 use Rattle.las_base.proofs.Indices.{cell_at, cell_at_held, index-cell_at}
 use Rattle.grid_box.specs.Drawings.{Drawing, IsDrawing}
 use Rattle.grid_box.specs.Sheets.{Sheet}
+use Rattle.grid_box.specs.Surfaces.{sheet_number}
 use Rattle.cnf_base.specs.Literals.{Values, values_of}
-use Rattle.cnf_table.specs.Variables.{sheet_member}
 use Rattle.cnf_table.specs.Values.{members, sheet_members, values}
 use Rattle.cnf_table.specs.Shown.{AreShown}
 use Rattle.cnf_table.proofs.TableLemmas.{values_show}
@@ -41,7 +41,7 @@ length-values d sss =
     rows = omega arith
 
 -- the axes of a sheet by the number of its member
-sheet_of : (j : ℕ) → j < 6 → (a : Axis) × (b : Axis) × (same_axis a b ≡ false) × (sheet_member a b ≡ j)
+sheet_of : (j : ℕ) → j < 6 → (a : Axis) × (b : Axis) × (same_axis a b ≡ false) × (sheet_number a b ≡ j)
 sheet_of zero low = (I, J, refl, refl)
 sheet_of (suc zero) low = (I, K, refl, refl)
 sheet_of (suc (suc zero)) low = (J, I, refl, refl)
@@ -65,7 +65,7 @@ module _ (s : Size) (d : Drawing) (sss : List (List Sheet)) (v w : Values) (one 
       let flow_low : k / 6 < length sss = omega arith in
       let there : slice_get sss (k / 6) ≡ Some (get_or sss (k / 6) []) = slice_get-get_or sss (k / 6) [] flow_low in
       let member : 8 + (6 * (k / 6) + k % 6) ≡ suc (suc (suc (suc (suc (suc (suc (suc k))))))) = omega arith in
-      let number : 8 + (6 * (k / 6) + sheet_member x.0 x.1) ≡ suc (suc (suc (suc (suc (suc (suc (suc k))))))) = ap (λ j. 8 + (6 * (k / 6) + j)) x.3 ∙ member in
+      let number : 8 + (6 * (k / 6) + sheet_number x.0 x.1) ≡ suc (suc (suc (suc (suc (suc (suc (suc k))))))) = ap (λ j. 8 + (6 * (k / 6) + j)) x.3 ∙ member in
       ap (λ n. v (n * volume s + index s c)) (sym number)
       ∙ (one.sheets (k / 6) (get_or sss (k / 6) []) there).sheets x.0 x.1 x.2 c h
       ∙ sym ((other.sheets (k / 6) (get_or sss (k / 6) []) there).sheets x.0 x.1 x.2 c h)

@@ -12,18 +12,18 @@ use Rattle.las_base.specs.declared.Way.TheVariants.{Plus, Minus}
 use Rattle.las_base.specs.declared.Kind.{Kind}
 use Rattle.las_base.specs.declared.Cell.{Cell}
 use Rattle.las_base.specs.declared.Pauli.{Pauli}
-use Rattle.las_base.specs.Axes.{axes, same_axis, same_kind}
+use Rattle.las_base.specs.Axes.{axes, kind_by, same_axis, same_kind}
 use Rattle.las_base.specs.Cells.{holds, cells, volume}
 use Rattle.las_base.specs.Jobs.{Task, IsTask}
 use Rattle.grid_box.specs.Drawings.{Drawing, pipe_at}
 use Rattle.grid_box.specs.Legs.{Position, kind_at, end_of_way}
 use Rattle.grid_box.specs.PipeRules.{IsValid}
 use Rattle.grid_box.specs.Sheets.{Sheet, Serves, spans}
-use Rattle.grid_box.specs.Surfaces.{Surfaces, has_sheet}
+use Rattle.grid_box.specs.Surfaces.{Surfaces, has_sheet, sheet_number}
 use Rattle.cnf_base.specs.Literals.{Values, Clause, all_true, clause_true, values_of}
-use Rattle.cnf_table.specs.Variables.{diagram_var, sheet_var, exist_member, colour_member, sheet_member}
+use Rattle.cnf_table.specs.Variables.{diagram_var, sheet_var, exist_member, colour_member}
 use Rattle.cnf_table.specs.Clauses.{absent_colour_clauses, absent_colour_clauses_at, absent_sheet_clauses, absent_sheet_clauses_at, letter_clauses, y_sheet_clauses, joint_clauses, flow_clauses, clause_table, box_clauses, port_clauses, forbidden_clauses, y_cube_clauses, dead_end_clauses, three_axes_clauses, colour_clauses, port_colour_clauses, diagram_clauses}
-use Rattle.cnf_decode.specs.Building.{kind_of_value, exists_by, pipe_by, sheet_by, shows_sheet, IsBuilt, AreBuilt}
+use Rattle.cnf_decode.specs.Building.{exists_by, pipe_by, sheet_by, shows_sheet, IsDecoded, AreDecoded}
 use Rattle.cnf_table.specs.Values.{pipe_passes}
 use Rattle.cnf_table.specs.Shown.{ShowsDiagram, ShowsSheets, AreShown}
 use Rattle.cnf_table.proofs.ListLemmas.{list_all-flat_map, all_get}
@@ -108,7 +108,7 @@ module _ (v : Values) where
     two_sheets_k : (flow : ℕ) (c : Cell) → all_true v (absent_sheet_clauses_at t.size flow K c) ≡ ((v (diagram_var t.size 3 c) || not (v (sheet_var t.size flow 4 c))) && (v (diagram_var t.size 3 c) || not (v (sheet_var t.size flow 5 c))))
     two_sheets_k flow c = simp (lit_true-literal, or-false, and-true)
 
-    sheet_off : (flow : ℕ) → flow < length t.flows → (a b : Axis) (c : Cell) → same_axis a b ≡ false → holds t.size c ≡ true → (v (diagram_var t.size (exist_member a) c) || not (v (sheet_var t.size flow (sheet_member a b) c))) ≡ true
+    sheet_off : (flow : ℕ) → flow < length t.flows → (a b : Axis) (c : Cell) → same_axis a b ≡ false → holds t.size c ≡ true → (v (diagram_var t.size (exist_member a) c) || not (v (sheet_var t.size flow (sheet_number a b) c))) ≡ true
     sheet_off flow low I I c other h = absurd (cc)
     sheet_off flow low J J c other h = absurd (cc)
     sheet_off flow low K K c other h = absurd (cc)
@@ -119,7 +119,7 @@ module _ (v : Values) where
     sheet_off flow low K I c other h = (and_parts (v (diagram_var t.size 3 c) || not (v (sheet_var t.size flow 4 c))) _ (sym (two_sheets_k flow c) ∙ sheets_here flow low K c h)).0
     sheet_off flow low K J c other h = (and_parts (v (diagram_var t.size 3 c) || not (v (sheet_var t.size flow 4 c))) (v (diagram_var t.size 3 c) || not (v (sheet_var t.size flow 5 c))) (sym (two_sheets_k flow c) ∙ sheets_here flow low K c h)).1
 
-    kind_is : (b : Bool) → same_kind (kind_of_value b) Kind.Z ≡ b
+    kind_is : (b : Bool) → same_kind (kind_by b) Kind.Z ≡ b
     kind_is true = refl
     kind_is false = refl
 
@@ -129,7 +129,7 @@ module _ (v : Values) where
     off false true f g = absurd (cc)
     off false false f g = refl
 
-    module _ (d : Drawing) (built : IsBuilt v t.size d) where
+    module _ (d : Drawing) (built : IsDecoded v t.size d) where
       by_colour : (w : Way) (a : Axis) (c : Cell) → same_kind (kind_at (pipe_by v t.size a c) (end_of_way w)) Kind.Z ≡ v (diagram_var t.size (colour_member (a, w)) c)
       by_colour Plus a c = kind_is (v (diagram_var t.size (colour_member (a, Plus)) c))
       by_colour Minus a c = kind_is (v (diagram_var t.size (colour_member (a, Minus)) c))
@@ -152,7 +152,7 @@ module _ (v : Values) where
           by_exist p c h true e = by_colour p.1 p.0 c
           by_exist p c h false e = sym (off (exists_by v t.size p.0 c) (v (diagram_var t.size (colour_member p) c)) e (colour_off p c h))
 
-      pub sheets_shown : (S : Surfaces) → AreBuilt v t.size (length t.flows) (length t.flows) S → (flow : ℕ) (ss : List Sheet) → slice_get S.flows flow ≡ Some ss → ShowsSheets t.size d flow ss v
+      pub sheets_shown : (S : Surfaces) → AreDecoded v t.size (length t.flows) (length t.flows) S → (flow : ℕ) (ss : List Sheet) → slice_get S.flows flow ≡ Some ss → ShowsSheets t.size d flow ss v
       sheets_shown S are flow ss there = record {
         sheets = λ a b other c h. sym (ap (λ o. pipe_passes o (λ p. spans ss p b)) (pipe_here a c h) ∙ by_exist a b other c h (exists_by v t.size a c) refl);
       }
@@ -163,22 +163,22 @@ module _ (v : Values) where
           has : (x : Sheet) → has_sheet ss x ≡ (nat_lt flow (length t.flows) && shows_sheet v t.size flow x)
           has x = ap (λ xs. has_sheet xs x) (sym (get_or_from_slice_get S.flows flow ss [] there)) ∙ are.sheets flow x
 
-          by_exist : (a b : Axis) → same_axis a b ≡ false → (c : Cell) → holds t.size c ≡ true → (e : Bool) → exists_by v t.size a c ≡ e → pipe_passes (cond e (Some (pipe_by v t.size a c)) None) (λ p. spans ss p b) ≡ v (sheet_var t.size flow (sheet_member a b) c)
+          by_exist : (a b : Axis) → same_axis a b ≡ false → (c : Cell) → holds t.size c ≡ true → (e : Bool) → exists_by v t.size a c ≡ e → pipe_passes (cond e (Some (pipe_by v t.size a c)) None) (λ p. spans ss p b) ≡ v (sheet_var t.size flow (sheet_number a b) c)
           by_exist a b other c h true e =
               has (record { axis = a; cell = c; span = b }) ∙ ap (λ n. n && (not (same_axis a b) && (holds t.size c && sheet_by v t.size flow a b c))) (lt-ltb flow (length t.flows) low)
               ∙ ap (λ n. not n && (holds t.size c && sheet_by v t.size flow a b c)) other
               ∙ ap (λ n. n && sheet_by v t.size flow a b c) h
-          by_exist a b other c h false e = sym (off (exists_by v t.size a c) (v (sheet_var t.size flow (sheet_member a b) c)) e (sheet_off flow low a b c other h))
+          by_exist a b other c h false e = sym (off (exists_by v t.size a c) (v (sheet_var t.size flow (sheet_number a b) c)) e (sheet_off flow low a b c other h))
 
-      pub decoded : (S : Surfaces) → AreBuilt v t.size (length t.flows) (length t.flows) S → AreShown t.size d S.flows v
+      pub decoded : (S : Surfaces) → AreDecoded v t.size (length t.flows) (length t.flows) S → AreShown t.size d S.flows v
       decoded S are = record { diagram = diagram_shown; sheets = sheets_shown S are }
 
 -- values that make every clause true show a valid diagram, with sheets that serve each flow
-pub decoded_serves : (v : Values) (t : Task) → IsTask t → all_true v (clause_table t).clauses ≡ true → (d : Drawing) → IsBuilt v t.size d → (S : Surfaces) → AreBuilt v t.size (length t.flows) (length t.flows) S → IsValid t d × AllZip (Serves t d) S.flows t.flows
+pub decoded_serves : (v : Values) (t : Task) → IsTask t → all_true v (clause_table t).clauses ≡ true → (d : Drawing) → IsDecoded v t.size d → (S : Surfaces) → AreDecoded v t.size (length t.flows) (length t.flows) S → IsValid t d × AllZip (Serves t d) S.flows t.flows
 decoded_serves v t task all d built S are = (shown_is_exact t d S.flows v task built.drawn built.size are.count (decoded v t all d built S are)).0 all
 
 -- the values are those of what they show
-pub decoded_same : (t : Task) (bits : List Bool) → all_true (values_of bits) (clause_table t).clauses ≡ true → (d : Drawing) → IsBuilt (values_of bits) t.size d → (S : Surfaces) → AreBuilt (values_of bits) t.size (length t.flows) (length t.flows) S → length bits ≡ (8 + 6 * length t.flows) * volume t.size → AreValuesOf d S.flows bits
+pub decoded_same : (t : Task) (bits : List Bool) → all_true (values_of bits) (clause_table t).clauses ≡ true → (d : Drawing) → IsDecoded (values_of bits) t.size d → (S : Surfaces) → AreDecoded (values_of bits) t.size (length t.flows) (length t.flows) S → length bits ≡ (8 + 6 * length t.flows) * volume t.size → AreValuesOf d S.flows bits
 decoded_same t bits all d built S are long =
     shown_are_values d S.flows bits built.drawn (long ∙ (λ i. (8 + 6 * sym are.count i) * volume (sym built.size i)))
     (subst (λ s. AreShown s d S.flows (values_of bits)) (sym built.size) (decoded (values_of bits) t all d built S are))

@@ -1,4 +1,3 @@
-pub mod PassedLemmas
 pub mod DecodeLemmas
 pub mod DecodedLemmas
 pub mod AgreeLemmas

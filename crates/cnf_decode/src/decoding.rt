@@ -1,23 +1,24 @@
 // The diagram and the sheets that values show.
 ghost use Rattle.std.specs.Prelude.{◌≡◌, ◌≢◌, ◌<◌, ◌≤◌, length, true, IfOk};
 ghost use Rattle.std.specs.List.{AllZip};
+ghost use Rattle.las_base.specs.Axes.{kind_by};
 ghost use Rattle.las_base.specs.Cells.{holds, volume};
 ghost use Rattle.las_base.specs.Jobs.{within_limits};
 ghost use Rattle.grid_box.specs.Drawings.{IsDrawing};
-ghost use Rattle.grid_box.specs.LookUps.{PutsPipe};
+ghost use Rattle.grid_box.specs.LookUps.{PutsPipe, PutsPipes, PutsYCells};
 ghost use Rattle.grid_box.specs.PipeRules.{IsValid};
 ghost use Rattle.grid_box.specs.Sheets.{Serves};
-ghost use Rattle.grid_box.specs.Surfaces.{IsSurfaces};
+ghost use Rattle.grid_box.specs.Surfaces.{IsSurfaces, PutsFlow, PutsSheets};
 ghost use Rattle.cnf_base.specs.Literals.{all_true, values_of};
 ghost use Rattle.cnf_table.specs.Clauses.{clause_table};
 ghost use Rattle.cnf_table.specs.Layouts.{plan_of, plan_vars};
-ghost use Rattle.cnf_decode.specs.Building.{AreBuilt, IsBuilt, LaysFlow, DrawsPipes, LaysSheets, DrawsYCells, exists_by, kind_of_value, pipe_by, sheet_by};
+ghost use Rattle.cnf_decode.specs.Building.{AreDecoded, IsDecoded, exists_by, pipe_by, sheet_by, shows_sheet, y_by};
 ghost use Rattle.cnf_table.specs.Shown.{AreShown};
 ghost use Rattle.cnf_table.specs.Values.{AreValuesOf};
 ghost use Rattle.cnf_table.specs.Variables.{diagram_var, sheet_var};
 
-use cnf_table::{Layout, colour_member, exist_member, sheet_member};
-use grid_box::{Diagram, Sheets};
+use cnf_table::{Layout, colour_member, exist_member};
+use grid_box::{Diagram, Sheets, sheet_number};
 use las_base::{Axis, Cell, Kind, Size, Way};
 use las_spec::Job;
 use std::alloc::{AllocError, Global};
@@ -37,7 +38,7 @@ fn kind(values: &[bool], layout: &Layout, member: usize, cell: Cell) -> Kind
     requires count { plan_vars layout.now ≤ length values.now }
     requires member { member < 8 }
     requires held { holds layout.now.size cell ≡ true }
-    ensures { result ≡ kind_of_value (values_of values.now (diagram_var layout.now.size member cell)) }
+    ensures { result ≡ kind_by (values_of values.now (diagram_var layout.now.size member cell)) }
 {
     if value(values, layout, member, cell) {
         Kind::Z
@@ -51,7 +52,7 @@ fn draw_y_cells(diagram: &mut Diagram, layout: &Layout, values: &[bool])
     requires count { plan_vars layout.now ≤ length values.now }
     requires drawn { IsDrawing diagram.old }
     requires same { diagram.old.size ≡ layout.now.size }
-    ensures y_cells { DrawsYCells layout.now.size (λ c. values_of values.now (diagram_var layout.now.size 0 c)) diagram.old diagram.new }
+    ensures y_cells { PutsYCells layout.now.size (y_by (values_of values.now) layout.now.size) diagram.old diagram.new }
     ensures pipes { diagram.new.pipes ≡ diagram.old.pipes }
     ensures size { diagram.new.size ≡ layout.now.size }
     ensures drawn { IsDrawing diagram.new }
@@ -85,7 +86,7 @@ fn draw_pipes_along(diagram: &mut Diagram, layout: &Layout, values: &[bool], axi
     requires count { plan_vars layout.now ≤ length values.now }
     requires drawn { IsDrawing diagram.old }
     requires same { diagram.old.size ≡ layout.now.size }
-    ensures pipes { DrawsPipes layout.now.size axis (exists_by (values_of values.now) layout.now.size axis) (pipe_by (values_of values.now) layout.now.size axis) diagram.old diagram.new }
+    ensures pipes { PutsPipes layout.now.size axis (exists_by (values_of values.now) layout.now.size axis) (pipe_by (values_of values.now) layout.now.size axis) diagram.old diagram.new }
     ensures y_cells { diagram.new.y_cells ≡ diagram.old.y_cells }
     ensures size { diagram.new.size ≡ layout.now.size }
     ensures drawn { IsDrawing diagram.new }
@@ -112,7 +113,7 @@ fn sheet_value(
     requires held { holds layout.now.size cell ≡ true }
     ensures { result ≡ sheet_by (values_of values.now) layout.now.size flow axes.0 axes.1 cell }
 {
-    values[layout.sheet_var(flow, sheet_member(axes.0, axes.1), cell).0 as usize]
+    values[layout.sheet_var(flow, sheet_number(axes.0, axes.1), cell).0 as usize]
 }
 
 // Lays the sheets of a flow, of pipes along the first axis, that span the second, where the values have one.
@@ -129,7 +130,7 @@ fn lay_sheets_along(
     requires flow { flow < length sheets.old.flows }
     requires flow_known { flow < layout.now.flow_count }
     requires span { axes.1 ≢ axes.0 }
-    ensures sheets { LaysSheets layout.now.size flow axes.0 axes.1 (sheet_by (values_of values.now) layout.now.size flow axes.0 axes.1) sheets.old sheets.new }
+    ensures sheets { PutsSheets layout.now.size flow axes.0 axes.1 (sheet_by (values_of values.now) layout.now.size flow axes.0 axes.1) sheets.old sheets.new }
     ensures size { sheets.new.size ≡ layout.now.size }
     ensures count { length sheets.new.flows ≡ length sheets.old.flows }
     ensures kept { IsSurfaces sheets.new }
@@ -150,7 +151,7 @@ fn lay_flow_sheets(sheets: &mut Sheets, layout: &Layout, values: &[bool], flow: 
     requires same { sheets.old.size ≡ layout.now.size }
     requires flow { flow < length sheets.old.flows }
     requires flow_known { flow < layout.now.flow_count }
-    ensures sheets { LaysFlow (values_of values.now) layout.now.size flow sheets.old sheets.new }
+    ensures sheets { PutsFlow flow (shows_sheet (values_of values.now) layout.now.size flow) sheets.old sheets.new }
     ensures size { sheets.new.size ≡ layout.now.size }
     ensures count { length sheets.new.flows ≡ length sheets.old.flows }
     ensures kept { IsSurfaces sheets.new }
@@ -173,7 +174,7 @@ fn build_diagram(
     requires count { plan_vars layout.now ≤ length values.now }
     requires limits { within_limits size ≡ true }
     requires same { size ≡ layout.now.size }
-    ensures { IfOk result (λ d. IsBuilt (values_of values.now) layout.now.size d) }
+    ensures { IfOk result (λ d. IsDecoded (values_of values.now) layout.now.size d) }
 {
     let mut diagram = Diagram::new(alloc, size)?;
     draw_y_cells(&mut diagram, layout, values);
@@ -196,7 +197,7 @@ fn build_sheets(
     requires few { flows ≤ 32 }
     requires same { size ≡ layout.now.size }
     requires flows { flows ≡ layout.now.flow_count }
-    ensures { IfOk result (λ s. AreBuilt (values_of values.now) layout.now.size flows flows s) }
+    ensures { IfOk result (λ s. AreDecoded (values_of values.now) layout.now.size flows flows s) }
 {
     let mut sheets = Sheets::new(alloc, size, flows)?;
     for flow in 0..flows {

@@ -20,10 +20,11 @@ use Rattle.grid_box.specs.Drawings.{Drawing, IsDrawing, Pipe, pipe_at, is_y}
 use Rattle.grid_box.specs.Legs.{Position, PipeEnd, positions, pipe_end_at, pipe_ends, legs, leg_of, along, has_leg_along}
 use Rattle.grid_box.specs.PipeRules.{◌==>◌, everywhere, is_only, stays_in_box, has_port_pipe, y_cube_has_one_k_leg}
 use Rattle.grid_box.specs.Sheets.{Sheet, Serves, spans, agree, is_odd, all_or_none, spells, spanning, beside, ports_spell, y_sheets_match, sheets_join_at}
+use Rattle.grid_box.specs.Surfaces.{sheet_number}
 use Rattle.grid_box.proofs.LegLemmas.{found_at}
 use Rattle.cnf_base.specs.Literals.{Values, Clause, all_true, clause_true}
 use Rattle.cnf_table.specs.Positions.{low_of, exists_in, is_on, port_position}
-use Rattle.cnf_table.specs.Variables.{diagram_var, sheet_var, exist_member, sheet_member, pipe_var_at, sheet_var_at}
+use Rattle.cnf_table.specs.Variables.{diagram_var, sheet_var, exist_member, pipe_var_at, sheet_var_at}
 use Rattle.cnf_table.specs.Clauses.{absent_sheet_clauses_at, absent_sheet_clauses, letter_clauses_at, letter_clauses, y_sheet_clauses_at, y_sheet_clauses, joint_clauses_on, joint_clauses_at, joint_clauses, flow_clauses}
 use Rattle.cnf_table.specs.Values.{pipe_passes}
 use Rattle.cnf_table.specs.Shown.{ShowsDiagram, ShowsSheets}
@@ -113,11 +114,11 @@ unmapped f (x ∷ xs) e = absurd (cc)
 module _ (t : Task) (d : Drawing) (v : Values) (task : IsTask t) (drawn : IsDrawing d) (size : d.size ≡ t.size) (shows : ShowsDiagram t.size d v) (flow : ℕ) (ss : List Sheet) (sheets : ShowsSheets t.size d flow ss v) where
   -- ---- absent pipes
 
-  no_sheet : (a b : Axis) (c : Cell) → same_axis a b ≡ false → holds t.size c ≡ true → (v (diagram_var t.size (exist_member a) c) || not (v (sheet_var t.size flow (sheet_member a b) c))) ≡ true
+  no_sheet : (a b : Axis) (c : Cell) → same_axis a b ≡ false → holds t.size c ≡ true → (v (diagram_var t.size (exist_member a) c) || not (v (sheet_var t.size flow (sheet_number a b) c))) ≡ true
   no_sheet a b c other h = by_pipe (pipe_at d a c) (shows.pipes a c h) (sheets.sheets a b other c h)
     where
-      by_pipe : (o : Option Pipe) → v (diagram_var t.size (exist_member a) c) ≡ is_some o → v (sheet_var t.size flow (sheet_member a b) c) ≡ pipe_passes o (λ q. spans ss q b)
-          → (v (diagram_var t.size (exist_member a) c) || not (v (sheet_var t.size flow (sheet_member a b) c))) ≡ true
+      by_pipe : (o : Option Pipe) → v (diagram_var t.size (exist_member a) c) ≡ is_some o → v (sheet_var t.size flow (sheet_number a b) c) ≡ pipe_passes o (λ q. spans ss q b)
+          → (v (diagram_var t.size (exist_member a) c) || not (v (sheet_var t.size flow (sheet_number a b) c))) ≡ true
       by_pipe None e f = rw (e, f) refl
       by_pipe (Some q) e f = rw e refl
 

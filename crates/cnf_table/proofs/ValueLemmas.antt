@@ -17,9 +17,11 @@ use Rattle.las_base.proofs.Lists.{all_found}
 use Rattle.grid_box.specs.Drawings.{Pipe, Drawing, IsDrawing, pipe_at, is_pipe_at, is_y, has_lawful_kinds}
 use Rattle.grid_box.specs.Legs.{kind_at, end_of_way}
 use Rattle.grid_box.specs.Sheets.{Sheet, spans}
+use Rattle.grid_box.specs.Surfaces.{sheet_number}
 use Rattle.grid_box.proofs.LegLemmas.{found_at}
+use Rattle.grid_box.proofs.SheetBitLemmas.{sheet_number-below}
 use Rattle.cnf_base.specs.Literals.{values_of}
-use Rattle.cnf_table.specs.Variables.{diagram_var, exist_member, colour_member, sheet_member}
+use Rattle.cnf_table.specs.Variables.{diagram_var, exist_member, colour_member}
 use Rattle.cnf_table.specs.Values.{pipe_passes, members, sheet_members, values}
 use Rattle.cnf_table.specs.Shown.{ShowsDiagram, ShowsSheets}
 
@@ -61,7 +63,7 @@ module _ (d : Drawing) (sheets_by_flow : List (List Sheet)) where
   exist_at J = refl
   exist_at K = refl
 
-  sheet_at : (ss : List Sheet) (a b : Axis) → same_axis a b ≡ false → slice_get (sheet_members d ss) (sheet_member a b) ≡ Some (λ c. pipe_passes (pipe_at d a c) (λ p. spans ss p b))
+  sheet_at : (ss : List Sheet) (a b : Axis) → same_axis a b ≡ false → slice_get (sheet_members d ss) (sheet_number a b) ≡ Some (λ c. pipe_passes (pipe_at d a c) (λ p. spans ss p b))
   sheet_at ss I I e = absurd (cc)
   sheet_at ss J J e = absurd (cc)
   sheet_at ss K K e = absurd (cc)
@@ -71,17 +73,6 @@ module _ (d : Drawing) (sheets_by_flow : List (List Sheet)) where
   sheet_at ss J K e = refl
   sheet_at ss K I e = refl
   sheet_at ss K J e = refl
-
-  sheet_low : (a b : Axis) → sheet_member a b < 6
-  sheet_low I J = omega arith
-  sheet_low I I = omega arith
-  sheet_low I K = omega arith
-  sheet_low J I = omega arith
-  sheet_low J J = omega arith
-  sheet_low J K = omega arith
-  sheet_low K I = omega arith
-  sheet_low K J = omega arith
-  sheet_low K K = omega arith
 
   same_kind-is : (k l : Kind) → same_kind k l ≡ true → k ≡ l
   same_kind-is Kind.X Kind.X e = refl
@@ -119,10 +110,10 @@ module _ (d : Drawing) (sheets_by_flow : List (List Sheet)) where
   pub shows_sheets : (flow : ℕ) (ss : List Sheet) → slice_get sheets_by_flow flow ≡ Some ss → ShowsSheets d.size d flow ss (values_of (values d sheets_by_flow))
   shows_sheets flow ss e = record {
     sheets = λ a b other c h.
-        let n : flow * 6 + sheet_member a b ≡ 6 * flow + sheet_member a b = omega arith in
-        let there : slice_get (flat_map (sheet_members d) sheets_by_flow) (flow * 6 + sheet_member a b) ≡ Some (λ c. pipe_passes (pipe_at d a c) (λ p. spans ss p b)) =
-        at_block (sheet_members d) 6 (λ x. refl) sheets_by_flow flow (sheet_member a b) ss e (sheet_low a b) ∙ sheet_at ss a b other in
-        member_at (8 + (6 * flow + sheet_member a b)) (λ c. pipe_passes (pipe_at d a c) (λ p. spans ss p b)) c
-        (slice_get-right (members d) (flat_map (sheet_members d) sheets_by_flow) (8 + (6 * flow + sheet_member a b)) (6 * flow + sheet_member a b) refl ∙ ap (slice_get (flat_map (sheet_members d) sheets_by_flow)) (sym n) ∙ there)
+        let n : flow * 6 + sheet_number a b ≡ 6 * flow + sheet_number a b = omega arith in
+        let there : slice_get (flat_map (sheet_members d) sheets_by_flow) (flow * 6 + sheet_number a b) ≡ Some (λ c. pipe_passes (pipe_at d a c) (λ p. spans ss p b)) =
+        at_block (sheet_members d) 6 (λ x. refl) sheets_by_flow flow (sheet_number a b) ss e (sheet_number-below a b) ∙ sheet_at ss a b other in
+        member_at (8 + (6 * flow + sheet_number a b)) (λ c. pipe_passes (pipe_at d a c) (λ p. spans ss p b)) c
+        (slice_get-right (members d) (flat_map (sheet_members d) sheets_by_flow) (8 + (6 * flow + sheet_number a b)) (6 * flow + sheet_number a b) refl ∙ ap (slice_get (flat_map (sheet_members d) sheets_by_flow)) (sym n) ∙ there)
         h;
   }

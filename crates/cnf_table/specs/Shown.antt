@@ -9,8 +9,9 @@ use Rattle.las_base.specs.Cells.{holds}
 use Rattle.grid_box.specs.Drawings.{Drawing, pipe_at, is_y}
 use Rattle.grid_box.specs.Legs.{Position, kind_at, end_of_way}
 use Rattle.grid_box.specs.Sheets.{Sheet, spans}
+use Rattle.grid_box.specs.Surfaces.{sheet_number}
 use Rattle.cnf_base.specs.Literals.{Values}
-use Rattle.cnf_table.specs.Variables.{diagram_var, sheet_var, exist_member, colour_member, sheet_member}
+use Rattle.cnf_table.specs.Variables.{diagram_var, sheet_var, exist_member, colour_member}
 use Rattle.cnf_table.specs.Values.{pipe_passes}
 
 -- the values of a box's variables are what the diagram says at each cell
@@ -21,7 +22,7 @@ pub record ShowsDiagram (s : Size) (d : Drawing) (v : Values) : Type 0 where
 
 -- the values of the variables of a flow are what its sheets say at each cell
 pub record ShowsSheets (s : Size) (d : Drawing) (flow : ℕ) (ss : List Sheet) (v : Values) : Type 0 where
-  pub sheets : (a b : Axis) → same_axis a b ≡ false → (c : Cell) → holds s c ≡ true → v (sheet_var s flow (sheet_member a b) c) ≡ pipe_passes (pipe_at d a c) (λ p. spans ss p b)
+  pub sheets : (a b : Axis) → same_axis a b ≡ false → (c : Cell) → holds s c ≡ true → v (sheet_var s flow (sheet_number a b) c) ≡ pipe_passes (pipe_at d a c) (λ p. spans ss p b)
 
 -- the values show the diagram, and for each flow its sheets
 pub record AreShown (s : Size) (d : Drawing) (sheets_by_flow : List (List Sheet)) (v : Values) : Type 0 where

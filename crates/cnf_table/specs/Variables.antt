@@ -9,6 +9,7 @@ use Rattle.las_base.specs.Axes.{same_axis, next_axis}
 use Rattle.las_base.specs.Cells.{volume, index}
 use Rattle.las_base.specs.Jobs.{Task}
 use Rattle.grid_box.specs.Legs.{Position}
+use Rattle.grid_box.specs.Surfaces.{sheet_number}
 use Rattle.cnf_base.specs.declared.literal.Lit.{Lit}
 use Rattle.cnf_base.specs.Literals.{plain, negated}
 use Rattle.cnf_table.specs.Layouts.{plan_of, plan_vars}
@@ -34,15 +35,6 @@ colour_member (I, w) = 4
 colour_member (J, w) = 5
 colour_member (K, Plus) = 6
 colour_member (K, Minus) = 7
-
--- the member of a pipe's sheet, by the pipe's axis and the axis that it spans
-abbrev pub sheet_member : Axis → Axis → ℕ
-sheet_member I J = 0
-sheet_member I _ = 1
-sheet_member J I = 2
-sheet_member J _ = 3
-sheet_member K I = 4
-sheet_member K _ = 5
 
 -- the number of variables of a job
 abbrev pub var_count : Task → ℕ
@@ -75,7 +67,7 @@ kind_literal s c p b sign = literal (if same_axis b (next_axis p.0) then sign el
 
 -- the variable of the sheet that spans an axis, of the pipe at a position
 abbrev pub sheet_var_at : Size → ℕ → Cell → Position → Axis → ℕ
-sheet_var_at s flow c p b = sheet_var s flow (sheet_member p.0 b) (low_of c p)
+sheet_var_at s flow c p b = sheet_var s flow (sheet_number p.0 b) (low_of c p)
 
 -- the literal that says whether the pipe at a position has the sheet
 abbrev pub sheet_literal : Size → ℕ → Cell → Position → Axis → Bool → Lit

@@ -11,4 +11,4 @@ mod literals;
 mod tests;
 
 pub use layout::{Layout, cnf_vars};
-pub use literals::{Position, colour_member, exist_member, low_of, sheet_member};
+pub use literals::{Position, colour_member, exist_member, low_of};

@@ -3,10 +3,11 @@ ghost use Rattle.std.specs.Prelude.{◌≡◌, ◌<◌, ◌^◌, IsTrue, true};
 ghost use Rattle.las_base.specs.Cells.{holds};
 ghost use Rattle.cnf_table.specs.Layouts.{plan_vars, is_below};
 ghost use Rattle.cnf_table.specs.Positions.{exists_in, low_of};
-ghost use Rattle.cnf_table.specs.Variables.{diagram_var, literal, y_literal, pipe_literal, kind_literal, sheet_literal, exist_member, colour_member, sheet_member};
+ghost use Rattle.cnf_table.specs.Variables.{diagram_var, literal, y_literal, pipe_literal, kind_literal, sheet_literal, exist_member, colour_member};
 
 use crate::Layout;
 use cnf_base::{Lit, Var};
+use grid_box::sheet_number;
 use las_base::{Axis, Cell, Way};
 
 /// Where a pipe stands at a cell: along an axis, up it or down it.
@@ -66,21 +67,6 @@ pub fn colour_member(at: Position) -> usize
     }
 }
 
-/// The member of a flow's sheets that says whether a pipe has the one that spans an axis.
-pub fn sheet_member(axis: Axis, span: Axis) -> usize
-    ensures value { result ≡ sheet_member axis span }
-    ensures below { result < 6 }
-{
-    match (axis, span) {
-        (Axis::I, Axis::J) => 0,
-        (Axis::I, _) => 1,
-        (Axis::J, Axis::I) => 2,
-        (Axis::J, _) => 3,
-        (Axis::K, Axis::I) => 4,
-        (Axis::K, _) => 5,
-    }
-}
-
 impl Layout {
     /// Says whether the cell is a Y cell.
     pub fn y_literal(&self, cell: Cell, sign: bool) -> Lit
@@ -134,7 +120,7 @@ impl Layout {
         ensures below { is_below (plan_vars self.now) result ≡ true }
     {
         literal(
-            self.sheet_var(flow, sheet_member(at.0, span), low_of(cell, at)),
+            self.sheet_var(flow, sheet_number(at.0, span), low_of(cell, at)),
             sign,
         )
     }

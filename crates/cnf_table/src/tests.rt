@@ -3,8 +3,9 @@ ghost use Rattle.std.specs.Prelude.{◌≡◌, IfOk};
 ghost use Rattle.las_base.specs.declared.Axis.TheVariants.{J};
 ghost use Rattle.grid_box.specs.Examples.{wire};
 
-use crate::{Layout, cnf_vars, colour_member, exist_member, low_of, sheet_member};
+use crate::{Layout, cnf_vars, colour_member, exist_member, low_of};
 use cnf_base::Var;
+use grid_box::sheet_number;
 use las_base::{Axis, Cell, Pauli, Port, Size, Way};
 use las_spec::{FlowWord, Job, make_job};
 use std::alloc::Global;
@@ -51,7 +52,7 @@ fn wire_has_20_variables(rt: HostRuntime) -> Result<(), Fail> {
     assert_eq!(rt; pipe, Var(3));
     let colour = layout.diagram_var(colour_member((Axis::K, Way::Minus)), ORIGIN);
     assert_eq!(rt; colour, Var(7));
-    let sheet = layout.sheet_var(1, sheet_member(Axis::K, Axis::J), ORIGIN);
+    let sheet = layout.sheet_var(1, sheet_number(Axis::K, Axis::J), ORIGIN);
     assert_eq!(rt; sheet, Var(19));
     Ok(())
 }

@@ -11,3 +11,4 @@ pub mod FindLemmas
 pub mod SheetLemmas
 pub mod SheetBitLemmas
 pub mod BreachByLemmas
+pub mod PutLemmas

@@ -14,24 +14,24 @@ use Rattle.las_base.specs.Jobs.{most_flows, within_limits}
 use Rattle.las_base.proofs.Blocks.{length-numbers_from, at_number}
 use Rattle.las_base.proofs.Indices.{index_below, cell_at, cell_at-index}
 use Rattle.grid_box.specs.Sheets.{Sheet, same_sheet}
-use Rattle.grid_box.specs.Surfaces.{Surfaces, sheet_axes, has_sheet, sheets_by, sheets_of, surfaces_of, IsSurfaces, PutsSheet}
-use Rattle.grid_box.specs.SheetBits.{pair_number, bit_number, sheet_bit, surfaces_by, AreKept}
+use Rattle.grid_box.specs.Surfaces.{Surfaces, sheet_axes, sheet_number, has_sheet, sheets_by, sheets_of, surfaces_of, IsSurfaces, PutsSheet}
+use Rattle.grid_box.specs.SheetBits.{bit_number, sheet_bit, surfaces_by, AreKept}
 use Rattle.grid_box.proofs.SheetLemmas.{same_sheet-is, same_sheet-refl, fits, has-sheets_by, all_in_order, none_by}
 
 -- ---- the numbers of bits
 
-pair_below : (a b : Axis) → pair_number a b < 6
-pair_below I I = omega arith
-pair_below I J = omega arith
-pair_below I K = omega arith
-pair_below J I = omega arith
-pair_below J J = omega arith
-pair_below J K = omega arith
-pair_below K I = omega arith
-pair_below K J = omega arith
-pair_below K K = omega arith
+pub sheet_number-below : (a b : Axis) → sheet_number a b < 6
+sheet_number-below I I = omega arith
+sheet_number-below I J = omega arith
+sheet_number-below I K = omega arith
+sheet_number-below J I = omega arith
+sheet_number-below J J = omega arith
+sheet_number-below J K = omega arith
+sheet_number-below K I = omega arith
+sheet_number-below K J = omega arith
+sheet_number-below K K = omega arith
 
-pair_at : (a b : Axis) → not (same_axis a b) ≡ true → get_or sheet_axes (pair_number a b) (I, I) ≡ (a, b)
+pair_at : (a b : Axis) → not (same_axis a b) ≡ true → get_or sheet_axes (sheet_number a b) (I, I) ≡ (a, b)
 pair_at I J e = refl
 pair_at I K e = refl
 pair_at J I e = refl
@@ -42,24 +42,24 @@ pair_at I I e = absurd (cc)
 pair_at J J e = absurd (cc)
 pair_at K K e = absurd (cc)
 
-row_below : (flow count : ℕ) (a b : Axis) → flow < count → flow * 6 + pair_number a b < count * 6
-row_below flow count a b h = omega (arith, pair_below a b)
+row_below : (flow count : ℕ) (a b : Axis) → flow < count → flow * 6 + sheet_number a b < count * 6
+row_below flow count a b h = omega (arith, sheet_number-below a b)
 
 pub bit_below : (s : Size) (flow count : ℕ) (x : Sheet) → flow < count → holds s x.cell ≡ true → bit_number s flow x < count * (6 * volume s)
 bit_below s flow count x f h =
-    let n = mul-add-lt (flow * 6 + pair_number x.axis x.span) (volume s) (index s x.cell) (count * 6) (row_below flow count x.axis x.span f) (index_below s x.cell h) in
+    let n = mul-add-lt (flow * 6 + sheet_number x.axis x.span) (volume s) (index s x.cell) (count * 6) (row_below flow count x.axis x.span f) (index_below s x.cell h) in
     grind (arith, n)
 
 numbers_tell : (s : Size) (f g : ℕ) (x y : Sheet) → fits s x ≡ true → fits s y ≡ true → bit_number s f x ≡ bit_number s g y → (f ≡ g) × (x ≡ y)
 numbers_tell s f g x y p q e =
     let held = λ (z : Sheet) (h : fits s z ≡ true). (and_parts (holds s z.cell) (not (same_axis z.axis z.span)) h).0 in
     let apart = λ (z : Sheet) (h : fits s z ≡ true). (and_parts (holds s z.cell) (not (same_axis z.axis z.span)) h).1 in
-    let row = λ (n : ℕ) (z : Sheet) (h : fits s z ≡ true). div-mul-add (n * 6 + pair_number z.axis z.span) (volume s) (index s z.cell) (index_below s z.cell (held z h)) in
-    let place = λ (n : ℕ) (z : Sheet) (h : fits s z ≡ true). mod-mul-add (n * 6 + pair_number z.axis z.span) (volume s) (index s z.cell) (index_below s z.cell (held z h)) in
-    let rows : f * 6 + pair_number x.axis x.span ≡ g * 6 + pair_number y.axis y.span = sym (row f x p) ∙ ap (λ n. n / volume s) e ∙ row g y q in
+    let row = λ (n : ℕ) (z : Sheet) (h : fits s z ≡ true). div-mul-add (n * 6 + sheet_number z.axis z.span) (volume s) (index s z.cell) (index_below s z.cell (held z h)) in
+    let place = λ (n : ℕ) (z : Sheet) (h : fits s z ≡ true). mod-mul-add (n * 6 + sheet_number z.axis z.span) (volume s) (index s z.cell) (index_below s z.cell (held z h)) in
+    let rows : f * 6 + sheet_number x.axis x.span ≡ g * 6 + sheet_number y.axis y.span = sym (row f x p) ∙ ap (λ n. n / volume s) e ∙ row g y q in
     let indices : index s x.cell ≡ index s y.cell = sym (place f x p) ∙ ap (λ n. n % volume s) e ∙ place g y q in
-    let flows : f ≡ g = omega (arith, rows, pair_below x.axis x.span, pair_below y.axis y.span) in
-    let numbers : pair_number x.axis x.span ≡ pair_number y.axis y.span = omega (arith, rows, flows) in
+    let flows : f ≡ g = omega (arith, rows, sheet_number-below x.axis x.span, sheet_number-below y.axis y.span) in
+    let numbers : sheet_number x.axis x.span ≡ sheet_number y.axis y.span = omega (arith, rows, flows) in
     let pairs : (x.axis, x.span) ≡ (y.axis, y.span) = sym (pair_at x.axis x.span (apart x p)) ∙ ap (λ n. get_or sheet_axes n (I, I)) numbers ∙ pair_at y.axis y.span (apart y q) in
     let cell : x.cell ≡ y.cell = sym (cell_at-index s x.cell (held x p)) ∙ ap (cell_at s) indices ∙ cell_at-index s y.cell (held y q) in
     (flows, λ t. record { axis = (pairs t).0; cell = cell t; span = (pairs t).1 })

@@ -8,7 +8,7 @@ use Rattle.las_base.specs.declared.Kind.{Kind}
 use Rattle.las_base.specs.declared.Cell.{Cell}
 use Rattle.las_base.specs.declared.Size.{Size}
 use Rattle.las_base.specs.Axes.{axes, same_axis, same_kind}
-use Rattle.las_base.specs.Cells.{cells, same_cell}
+use Rattle.las_base.specs.Cells.{cells, holds, same_cell}
 use Rattle.grid_box.specs.Drawings.{Pipe, Drawing, IsDrawing, drawing_of, is_pipe_at, pipe_at, is_y}
 
 -- the pipe with these kinds, where there are any
@@ -33,6 +33,11 @@ abbrev pub PutsPipe : Drawing → Drawing → Pipe → Type 0
 PutsPipe old new p =
     (a : Axis) (c : Cell) → pipe_at new a c ≡ (if is_pipe_at a c p then Some p else pipe_at old a c)
 
+-- the new drawing has the pipe that is made along the axis at each cell of the box that passes, and elsewhere what the old one has
+abbrev pub PutsPipes : Size → Axis → (Cell → Bool) → (Cell → Pipe) → Drawing → Drawing → Type 0
+PutsPipes s axis exist made old new =
+    (a : Axis) (c : Cell) → pipe_at new a c ≡ (if same_axis axis a && (holds s c && exist c) then Some (made c) else pipe_at old a c)
+
 -- the new drawing has no pipe along the axis with this low cell, and every other pipe of the old one
 abbrev pub DropsPipe : Drawing → Drawing → Axis → Cell → Type 0
 DropsPipe old new axis cell =
@@ -42,9 +47,20 @@ DropsPipe old new axis cell =
 abbrev pub PutsY : Drawing → Drawing → Cell → Type 0
 PutsY old new y = (c : Cell) → is_y new c ≡ (same_cell c y || is_y old c)
 
+-- the new drawing has a Y cube at each cell of the box that passes, and elsewhere where the old one has one
+abbrev pub PutsYCells : Size → (Cell → Bool) → Drawing → Drawing → Type 0
+PutsYCells s test old new = (c : Cell) → is_y new c ≡ ((holds s c && test c) || is_y old c)
+
 -- the new drawing has no Y cube at this cell, and at every other cell where the old one has one
 abbrev pub DropsY : Drawing → Drawing → Cell → Type 0
 DropsY old new y = (c : Cell) → is_y new c ≡ (not (same_cell c y) && is_y old c)
+
+-- a drawing of the box that has the pipe that is made at each place that passes, a Y cube at each cell that passes, and no more
+pub record IsBuilt (exist : Axis → Cell → Bool) (made : Axis → Cell → Pipe) (y : Cell → Bool) (s : Size) (d : Drawing) : Type 0 where
+  pub drawn : IsDrawing d
+  pub size : d.size ≡ s
+  pub pipes : (a : Axis) (c : Cell) → pipe_at d a c ≡ (if holds s c && exist a c then Some (made a c) else None)
+  pub y_cells : (c : Cell) → is_y d c ≡ (holds s c && y c)
 
 -- a drawing's look-ups tell the drawing
 abbrev pub LookUpsTell : Type 0

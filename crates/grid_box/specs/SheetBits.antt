@@ -1,25 +1,14 @@
 -- Sheets as they are kept: a bit for each flow, each pair of axes and each low cell.
 use Rattle.std.specs.Prelude.{◌≡◌, ℕ, ◌+◌, ◌*◌, ◌≤◌, Bool, false, List, map, length, IsTrue, slice_index_or}
-use Rattle.las_base.specs.declared.Axis.{Axis}
-use Rattle.las_base.specs.declared.Axis.TheVariants.{I, J, K}
 use Rattle.las_base.specs.declared.Size.{Size}
 use Rattle.las_base.specs.Cells.{volume, index, numbers_from}
 use Rattle.las_base.specs.Jobs.{most_flows, within_limits}
 use Rattle.grid_box.specs.Sheets.{Sheet}
-use Rattle.grid_box.specs.Surfaces.{Surfaces, surfaces_of, sheets_by}
-
--- the axis of a pipe and the other one that its sheet spans, by their place in `sheet_axes`
-abbrev pub pair_number : Axis → Axis → ℕ
-pair_number I J = 0
-pair_number I _ = 1
-pair_number J I = 2
-pair_number J _ = 3
-pair_number K I = 4
-pair_number K _ = 5
+use Rattle.grid_box.specs.Surfaces.{Surfaces, sheet_number, surfaces_of, sheets_by}
 
 -- where the bit of a flow's sheet stands: by flow, then by these axes, then by cell
 abbrev pub bit_number : Size → ℕ → Sheet → ℕ
-bit_number s flow x = (flow * 6 + pair_number x.axis x.span) * volume s + index s x.cell
+bit_number s flow x = (flow * 6 + sheet_number x.axis x.span) * volume s + index s x.cell
 
 -- the bit of a flow's sheet
 abbrev pub sheet_bit : Size → List Bool → ℕ → Sheet → Bool

@@ -1,16 +1,27 @@
 -- The sheets of several flows, as contracts see them.
-use Rattle.std.specs.Prelude.{◌≡◌, ℕ, ◌≤◌, Bool, ◌&&◌, nat_eq, List, [], ◌∷◌, map, length, slice_index_or, if◌then◌else◌, IsTrue, All}
+use Rattle.std.specs.Prelude.{◌≡◌, ℕ, ◌≤◌, Bool, ◌&&◌, ◌||◌, nat_eq, nat_lt, List, [], ◌∷◌, map, length, slice_index_or, if◌then◌else◌, IsTrue, All}
 use Rattle.std.specs.List.{list_any, filter, flat_map}
 use Rattle.las_base.specs.declared.Axis.{Axis}
 use Rattle.las_base.specs.declared.Axis.TheVariants.{I, J, K}
+use Rattle.las_base.specs.declared.Cell.{Cell}
 use Rattle.las_base.specs.declared.Size.{Size}
-use Rattle.las_base.specs.Cells.{cells}
+use Rattle.las_base.specs.Axes.{same_axis}
+use Rattle.las_base.specs.Cells.{cells, holds}
 use Rattle.las_base.specs.Jobs.{most_flows, within_limits}
 use Rattle.grid_box.specs.Sheets.{Sheet, same_sheet}
 
 -- the axes along which a pipe may lie, each with the axes that its sheets may span
 abbrev pub sheet_axes : List (Axis × Axis)
 sheet_axes = (I, J) ∷ (I, K) ∷ (J, I) ∷ (J, K) ∷ (K, I) ∷ (K, J) ∷ []
+
+-- the place of the axis of a pipe and of the one that its sheet spans among these
+abbrev pub sheet_number : Axis → Axis → ℕ
+sheet_number I J = 0
+sheet_number I _ = 1
+sheet_number J I = 2
+sheet_number J _ = 3
+sheet_number K I = 4
+sheet_number K _ = 5
 
 -- the sheets that a box has room for: by these axes, then by low cell
 abbrev pub all_sheets : Size → List Sheet
@@ -51,6 +62,25 @@ pub record IsSurfaces (s : Surfaces) : Type 0 where
 abbrev pub PutsSheet : Surfaces → Surfaces → ℕ → Sheet → Bool → Type 0
 PutsSheet old new flow x on =
     (f : ℕ) (y : Sheet) → has_sheet (sheets_of new f) y ≡ (if nat_eq f flow && same_sheet x y then on else has_sheet (sheets_of old f) y)
+
+-- the new sheets have in this flow each sheet that passes, and else those of the old
+abbrev pub PutsFlow : ℕ → (Sheet → Bool) → Surfaces → Surfaces → Type 0
+PutsFlow flow shows old new = (f : ℕ) (x : Sheet) → has_sheet (sheets_of new f) x ≡ ((nat_eq f flow && shows x) || has_sheet (sheets_of old f) x)
+
+-- the sheet is of a pipe along the first axis, and spans the second
+abbrev pub is_along : Axis → Axis → Sheet → Bool
+is_along a b x = same_axis a x.axis && same_axis b x.span
+
+-- the new sheets have in this flow a sheet of these axes at each cell of the box that passes, and else those of the old
+abbrev pub PutsSheets : Size → ℕ → Axis → Axis → (Cell → Bool) → Surfaces → Surfaces → Type 0
+PutsSheets s flow a b test old new = PutsFlow flow (λ x. is_along a b x && (holds s x.cell && test x.cell)) old new
+
+-- sheets of a box that are, in each of the first n flows of so many, those that pass
+pub record AreBuilt (shows : ℕ → Sheet → Bool) (s : Size) (flow_count n : ℕ) (new : Surfaces) : Type 0 where
+  pub kept : IsSurfaces new
+  pub size : new.size ≡ s
+  pub count : length new.flows ≡ flow_count
+  pub sheets : (f : ℕ) (x : Sheet) → has_sheet (sheets_of new f) x ≡ (nat_lt f n && shows f x)
 
 -- sheets in order are told by what is listed
 abbrev pub SheetsTell : Type 0

@@ -18,7 +18,7 @@ mod sheets;
 pub use diagram::Diagram;
 use las_base::{Axis, Cell, End, Kind, Port, Way};
 pub use scan::first_breach;
-pub use sheets::Sheets;
+pub use sheets::{Sheets, sheet_number};
 
 /// The end of a pipe that stands at a cell.
 #[derive(Clone, Copy, PartialEq, Eq, Debug)]

@@ -2,8 +2,8 @@
 ghost use Rattle.std.specs.Prelude.{◌≡◌, ◌≢◌, ◌*◌, ◌<◌, ◌≤◌, [], length, replicate, IfOk, IsTrue};
 ghost use Rattle.las_base.specs.Cells.{holds, volume};
 ghost use Rattle.las_base.specs.Jobs.{most_flows, within_limits};
-ghost use Rattle.grid_box.specs.SheetBits.{pair_number, bit_number};
-ghost use Rattle.grid_box.specs.Surfaces.{IsSurfaces, PutsSheet, has_sheet, sheets_of, surfaces_of};
+ghost use Rattle.grid_box.specs.SheetBits.{bit_number};
+ghost use Rattle.grid_box.specs.Surfaces.{IsSurfaces, PutsSheet, has_sheet, sheet_number, sheets_of, surfaces_of};
 
 use las_base::{Axis, Cell, Size};
 use std::alloc::{AllocError, Global};
@@ -93,12 +93,14 @@ fn bit_number(size: Size, flow: usize, axis: Axis, cell: Cell, span: Axis) -> us
     requires held { IsTrue (holds size cell) }
     ensures { result ≡ bit_number size flow (record { axis = axis; cell = cell; span = span }) }
 {
-    (flow * 6 + pair_number(axis, span)) * size.volume() as usize + size.index(cell)
+    (flow * 6 + sheet_number(axis, span)) * size.volume() as usize + size.index(cell)
 }
 
-// The axis of a pipe and the other one that its sheet spans, by their number.
-fn pair_number(axis: Axis, span: Axis) -> usize
-    ensures value { result ≡ pair_number axis span }
+/// The number, from 0 to 5, of a sheet among those that can pass at one low cell: by the axis of its pipe,
+/// and then by the axis that it spans. A pipe's own axis, which no
+/// sheet spans, counts as the later of the other two.
+pub fn sheet_number(axis: Axis, span: Axis) -> usize
+    ensures value { result ≡ sheet_number axis span }
     ensures below { result < 6 }
 {
     match (axis, span) {

@@ -5,3 +5,4 @@ pub mod Same
 pub mod Sides
 pub mod Lists
 pub mod Widened
+pub mod Passing

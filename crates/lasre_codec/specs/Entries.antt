@@ -61,9 +61,13 @@ is_one_at es place = option_map_or is_one (slice_get es place) false
 abbrev pub is_bit_at : List Entry → ℕ → Bool
 is_bit_at es place = option_map_or is_bit (slice_get es place) false
 
--- the entry of a cell of the box is 1. Cells stand in their order
+-- the entry of a cell is 1. Cells stand in their order
+abbrev pub is_one_of : Size → List Entry → Cell → Bool
+is_one_of s es c = is_one_at es (index s c)
+
+-- the cell is in the box, and its entry is 1
 abbrev pub marks : Size → List Entry → Cell → Bool
-marks s es c = holds s c && is_one_at es (index s c)
+marks s es c = holds s c && is_one_of s es c
 
 -- the entries of a flow, in those of all flows one after another
 abbrev pub flow_part : Size → ℕ → List Entry → List Entry

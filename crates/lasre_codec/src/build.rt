@@ -4,9 +4,10 @@ ghost use Rattle.las_base.specs.Axes.{kind_by};
 ghost use Rattle.las_base.specs.Cells.{volume};
 ghost use Rattle.las_base.specs.Jobs.{within_limits};
 ghost use Rattle.grid_box.specs.Drawings.{IsDrawing};
-ghost use Rattle.lasre_codec.specs.Entries.{drawing_in, is_one_at};
+ghost use Rattle.grid_box.specs.LookUps.{PutsPipes, PutsYCells};
+ghost use Rattle.lasre_codec.specs.Entries.{drawing_in, is_one_at, is_one_of};
 ghost use Rattle.lasre_codec.specs.Kept.{entries_kept};
-ghost use Rattle.lasre_codec.specs.Puts.{PutsAlong, PutsPipes, PutsYCells};
+ghost use Rattle.lasre_codec.specs.Puts.{PutsAlong, pipe_marked};
 
 use crate::entries::{entries_of, is_one_at};
 use crate::member::Member;
@@ -38,7 +39,7 @@ fn put_pipes(
     requires drawn { IsDrawing diagram.old }
     requires same { diagram.old.size ≡ size }
     requires wall { axis ≢ Axis.K → low.now ≡ high.now }
-    ensures pipes { PutsPipes size axis exist.now low.now high.now diagram.old diagram.new }
+    ensures pipes { PutsPipes size axis (is_one_of size exist.now) (pipe_marked size axis low.now high.now) diagram.old diagram.new }
     ensures y_cells { diagram.new.y_cells ≡ diagram.old.y_cells }
     ensures size { diagram.new.size ≡ size }
     ensures drawn { IsDrawing diagram.new }
@@ -55,7 +56,7 @@ fn put_pipes(
 fn put_y_cells(diagram: &mut Diagram, size: Size, entries: &[Entry])
     requires drawn { IsDrawing diagram.old }
     requires same { diagram.old.size ≡ size }
-    ensures y_cells { PutsYCells size entries.now diagram.old diagram.new }
+    ensures y_cells { PutsYCells size (is_one_of size entries.now) diagram.old diagram.new }
     ensures pipes { diagram.new.pipes ≡ diagram.old.pipes }
     ensures size { diagram.new.size ≡ size }
     ensures drawn { IsDrawing diagram.new }

@@ -1,10 +1,10 @@
 // The sheets that entries show.
 ghost use Rattle.std.specs.Prelude.{◌≡◌, ◌≢◌, ◌&&◌, ◌+◌, ◌<◌, ◌≤◌, length, IfOk, IsTrue};
 ghost use Rattle.las_base.specs.Jobs.{most_flows, within_limits};
-ghost use Rattle.grid_box.specs.Surfaces.{IsSurfaces, sheet_axes};
+ghost use Rattle.grid_box.specs.Surfaces.{IsSurfaces, PutsSheets, sheet_axes};
 ghost use Rattle.lasre_codec.specs.Entries.{is_one_at, surfaces_in, flow_part};
 ghost use Rattle.lasre_codec.specs.Kept.{entries_kept};
-ghost use Rattle.lasre_codec.specs.Puts.{PutsSheets, PutsFlow};
+ghost use Rattle.lasre_codec.specs.Puts.{PutsAxes, is_one_in_both};
 
 use crate::entries::{entries_of, is_one_at};
 use crate::member::Member;
@@ -37,7 +37,7 @@ fn put_sheets(sheets: &mut Sheets, flow: usize, axes: (Axis, Axis), exist: &[Ent
     requires kept { IsSurfaces sheets.old }
     requires flow { flow < length sheets.old.flows }
     requires span { axes.1 ≢ axes.0 }
-    ensures sheets { PutsSheets sheets.old.size flow axes.0 axes.1 exist.now (flow_part sheets.old.size flow corr.now) sheets.old sheets.new }
+    ensures sheets { PutsSheets sheets.old.size flow axes.0 axes.1 (is_one_in_both sheets.old.size exist.now (flow_part sheets.old.size flow corr.now)) sheets.old sheets.new }
     ensures size { sheets.new.size ≡ sheets.old.size }
     ensures count { length sheets.new.flows ≡ length sheets.old.flows }
     ensures kept { IsSurfaces sheets.new }
@@ -56,7 +56,7 @@ fn put_sheets(sheets: &mut Sheets, flow: usize, axes: (Axis, Axis), exist: &[Ent
 fn put_flow(sheets: &mut Sheets, flow: usize, grids: &[Vec<Entry>])
     requires kept { IsSurfaces sheets.old }
     requires flow { flow < length sheets.old.flows }
-    ensures sheets { PutsFlow (entries_kept grids.now) sheets.old.size flow sheet_axes sheets.old sheets.new }
+    ensures sheets { PutsAxes (entries_kept grids.now) sheets.old.size flow sheet_axes sheets.old sheets.new }
     ensures size { sheets.new.size ≡ sheets.old.size }
     ensures count { length sheets.new.flows ≡ length sheets.old.flows }
     ensures kept { IsSurfaces sheets.new }

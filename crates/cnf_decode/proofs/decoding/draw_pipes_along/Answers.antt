@@ -3,7 +3,7 @@ use Rattle.las_base.specs.Cells.{volume, holds, index}
 use Rattle.cnf_base.specs.Literals.{values_of}
 use Rattle.cnf_table.specs.Variables.{diagram_var}
 use Rattle.cnf_decode.specs.Building.{exists_by, pipe_by}
-use Rattle.cnf_decode.proofs.PassedLemmas.{no_pipes, pipe_put, no_pipe_put, pipes_put}
+use Rattle.grid_box.proofs.PutLemmas.{no_pipes, pipe_put, no_pipe_put, pipes_put}
 use Rattle.cnf_decode.proofs.decoding.draw_pipes_along.Goals as goal
 use Rattle.cnf_decode.proofs.decoding.draw_pipes_along.Goals.{then-value, else-value}
 

@@ -2,7 +2,7 @@ use Rattle.std.proofs.Common.{◌∙◌, ◌≤◌, refl, sym, ap, arith}
 use Rattle.las_base.specs.Cells.{volume, holds, index}
 use Rattle.cnf_base.specs.Literals.{values_of}
 use Rattle.cnf_decode.specs.Building.{sheet_by}
-use Rattle.cnf_decode.proofs.PassedLemmas.{no_sheets, sheet_put, no_sheet_put, sheets_put}
+use Rattle.grid_box.proofs.PutLemmas.{no_sheets, sheet_put, no_sheet_put, sheets_put}
 use Rattle.cnf_decode.proofs.decoding.lay_sheets_along.Goals as goal
 use Rattle.cnf_decode.proofs.decoding.lay_sheets_along.Goals.{then-sheet_value, else-sheet_value}
 
