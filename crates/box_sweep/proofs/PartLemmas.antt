@@ -30,10 +30,6 @@ any_word s = record { box = s; word = Undecided 0 }
 abbrev any_words : List Size → List Tried
 any_words ss = map any_word ss
 
-boxes_of_any : (ss : List Size) → map (λ x. x.box) (any_words ss) ≡ ss
-boxes_of_any [] = refl
-boxes_of_any (s ∷ ss) = ap (λ rest. s ∷ rest) (boxes_of_any ss)
-
 -- boxes of which none is found are tried in their order, and so are any behind them
 order_goes_on : (xs : List Tried) (ss : List Size) → has_found xs ≡ false → AreTried (map (λ x. x.box) xs ++ ss) (xs ++ any_words ss)
 order_goes_on [] [] none = tt

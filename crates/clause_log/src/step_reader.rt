@@ -252,7 +252,7 @@ impl<H: Shelf> Steps for StepReader<'_, H> {
     ghost use Rattle.las_io.specs.Shelves.{FilesStay};
     ghost use Rattle.clause_log.specs.Pieces.{hand_in, has_failed, reader_ahead};
     ghost use Rattle.clause_log.specs.Rooms.{room_is_small};
-    ghost use Rattle.clause_log.specs.Leaving.{files_stay, stay_through};
+    ghost use Rattle.las_io.proofs.Fetched.{files_stay, stay_twice};
 
     ghost ahead = { λ r. reader_ahead (string_bytes r.name) (hand_in r.piece.items r.at r.filled) r.taken r.line (H.files r.shelf.now) };
 
@@ -271,7 +271,7 @@ impl<H: Shelf> Steps for StepReader<'_, H> {
 
     ghost goes_on_from_itself = { λ r. (refl, refl, files_stay (H.files r.shelf.now), λ none. none) };
 
-    ghost goes_on_through = { λ last mid first p q. (p.0 ∙ q.0, p.1 ∙ q.1, stay_through (H.files first.shelf.now) (H.files mid.shelf.now) (H.files last.shelf.now) q.2 p.2, λ none. p.3 (q.3 none)) };
+    ghost goes_on_through = { λ last mid first p q. (p.0 ∙ q.0, p.1 ∙ q.1, stay_twice (H.files first.shelf.now) (H.files mid.shelf.now) (H.files last.shelf.now) q.2 p.2, λ none. p.3 (q.3 none)) };
 
     fn next(&mut self) -> Result<Option<Step>, StepRefused> {
         let answer = self.next_step();

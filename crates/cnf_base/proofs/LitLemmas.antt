@@ -5,6 +5,13 @@ use Rattle.std.proofs.lemmas.Bool.{and_parts, and_from, or_cases, or_left, or_ri
 use Rattle.cnf_base.specs.declared.literal.Lit.{Lit}
 use Rattle.cnf_base.specs.Literals.{variable, negation, same_lit, has_lit, plain, negated, Clause, Values, lit_true, are_below}
 
+-- numbers are compared either way round
+pub nat_eq-sym : (m n : ℕ) → nat_eq m n ≡ nat_eq n m
+nat_eq-sym m n = elim (cases_eq m n) as (λ _. nat_eq m n ≡ nat_eq n m) [
+  | inl e ↦ eq-eqb m n e ∙ sym (eq-eqb n m (sym e))
+  | inr d ↦ ne_eqb m n d ∙ sym (ne_eqb n m (λ e. d (sym e)))
+]
+
 pub lit_is : (l m : Lit) → l.0 ≡ m.0 → l ≡ m
 lit_is l m e = ap (λ (k : ℕ). record { 0 = k }) e
 

@@ -174,9 +174,6 @@ module _ (vars : ℕ) (p : Path) (cs : List Live) (begins : ℕ → Type 0) (lev
     known : ℕ → Bool
     known v = is_marked marks v || is_met met v
 
-    known_now : ℕ → Bool
-    known_now v = is_marked after v || is_met (met ++ x ∷ []) v
-
     more : (j : ℕ) → j < p.size → (is_marked marks (variable (p.lit j)) || is_met met (variable (p.lit j))) ≡ true → (is_marked after (variable (p.lit j)) || is_met (met ++ x ∷ []) (variable (p.lit j))) ≡ true
     more j lt h = at (cases_eq j k) (or_cases (is_marked marks (variable (p.lit j))) (is_met met (variable (p.lit j))) h)
       where

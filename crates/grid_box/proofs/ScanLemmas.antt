@@ -11,8 +11,8 @@ use Rattle.las_base.specs.declared.Cell.{Cell}
 use Rattle.las_base.specs.Axes.{same_axis}
 use Rattle.las_base.specs.Cells.{same_cell, cell_before, above, below, coordinate, with_coordinate, rises}
 pub use Rattle.las_base.proofs.Same.{same_cell-is, same_cell-refl, same_axis-is}
-use Rattle.grid_box.specs.Drawings.{Pipe, Drawing, is_pipe_at, pipe_before, axis_before}
-use Rattle.grid_box.specs.Legs.{PipeEnd, pipe_ends}
+use Rattle.grid_box.specs.Drawings.{Pipe, is_pipe_at, pipe_before, axis_before}
+use Rattle.grid_box.specs.Legs.{PipeEnd}
 use Rattle.grid_box.specs.Scans.{ends_at, PipeEndsByScan}
 
 -- nothing before a pipe stands among the ones after it
@@ -52,9 +52,6 @@ six ps c =
     (cons_option (option_map high_end (high_in ps J c))
     (cons_option (option_map low_end (low_in ps J c))
     (cons_option (option_map high_end (high_in ps K c)) (cons_option (option_map low_end (low_in ps K c)) [])))))
-
-six_is : (d : Drawing) (c : Cell) → pipe_ends d c ≡ six d.pipes c
-six_is d c = refl
 
 -- one below a cell stands what has the cell one above
 below-none : (a : Axis) (x c : Cell) → nat_eq (coordinate c a) 0 ≡ true → same_cell (above a x) c ≡ false

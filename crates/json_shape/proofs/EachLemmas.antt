@@ -1,7 +1,6 @@
 -- One thing is read from each of some values: what a loop knows on the way, and what was read.
-use Rattle.std.proofs.Common.{◌≡◌, ℕ, zero, suc, ◌+◌, ◌<◌, ◌≤◌, List, [], ◌∷◌, ◌++◌, map, length, get_or, drop, Option, Some, None, refl, sym, ap, ◌∙◌, append_assoc, append-nil, drop_of_length-le}
+use Rattle.std.proofs.Common.{◌≡◌, ℕ, suc, ◌+◌, ◌<◌, ◌≤◌, List, [], ◌∷◌, ◌++◌, map, length, get_or, drop, Option, Some, None, refl, sym, ap, ◌∙◌, append_assoc, append-nil, drop_of_length-le}
 use Rattle.std.specs.Prelude.{option_map, option_and_then}
-use Rattle.std.specs.List.{slice_get}
 use Rattle.std.proofs.lemmas.List.{at_drop_more}
 use Rattle.serde_json.specs.Data.{Data}
 use Rattle.serde_json.specs.View.{view}
@@ -24,10 +23,6 @@ each_from : {A : Type 0} (f : Data → Option A) (vs : List Value) (i : ℕ) (v 
     → each f (map view (drop i vs)) ≡ option_and_then (λ x. option_map (λ xs. x ∷ xs) (each f (map view (drop (i + 1) vs)))) (f (view v))
 each_from f vs i v h e =
     at_drop_more (λ ws. each f (map view ws)) vs i v h ∙ ap (λ w. each f (map view (w ∷ drop (i + 1) vs))) (sym e)
-
--- nothing has been read
-pub way_begins : {A : Type 0} (f : Data → Option A) (vs : List Value) → IsOnTheWay f vs 0 []
-way_begins f vs = record { whole_is = option_map-nil (each f (map view vs)) }
 
 -- one value more
 pub way_goes_on : {A : Type 0} (f : Data → Option A) (vs : List Value) (i : ℕ) (v : Value) (old new : List A) (x : A) → IsOnTheWay f vs i old → i < length vs → v ≡ get_or vs i v → f (view v) ≡ Some x → new ≡ old ++ x ∷ []
@@ -71,13 +66,3 @@ length-each f [] xs e = let same : [] ≡ xs = cc in sym (ap length same)
 length-each f (d ∷ ds) xs e =
     let (x, rest, here, there, same) = each-cons f d ds xs e in
     sym (ap length same) ∙ ap suc (length-each f ds rest there)
-
--- the i-th thing is read from the i-th value
-pub each_at : {A : Type 0} (f : Data → Option A) (ds : List Data) (xs : List A) (i : ℕ) → each f ds ≡ Some xs → slice_get xs i ≡ option_and_then f (slice_get ds i)
-each_at f [] xs i e = let same : [] ≡ xs = cc in ap (λ ys. slice_get ys i) (sym same)
-each_at f (d ∷ ds) xs zero e =
-    let (x, rest, here, there, same) = each-cons f d ds xs e in
-    ap (λ ys. slice_get ys 0) (sym same) ∙ sym here
-each_at f (d ∷ ds) xs (suc i) e =
-    let (x, rest, here, there, same) = each-cons f d ds xs e in
-    ap (λ ys. slice_get ys (suc i)) (sym same) ∙ each_at f ds rest i there

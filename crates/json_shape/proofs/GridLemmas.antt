@@ -9,7 +9,7 @@ use Rattle.serde_json.specs.declared.value.Value.{Value}
 use Rattle.json_shape.specs.declared.grid.Entry.{Entry}
 use Rattle.json_shape.specs.Arrays.{array_items, each}
 use Rattle.json_shape.specs.Grids.{entry, joined, entries, all_of, has_lengths}
-use Rattle.json_shape.proofs.EachLemmas.{IsOnTheWay, way_begins, way_goes_on, way_breaks, way_ends}
+use Rattle.json_shape.proofs.EachLemmas.{IsOnTheWay, way_goes_on, way_breaks, way_ends}
 
 -- a grid of no depth is one entry
 pub entries_flat : (d : Data) → entries 0 d ≡ option_map (λ e. e ∷ []) (entry d)
@@ -34,9 +34,6 @@ pub record IsJoining (n : ℕ) (vs : List Value) (i : ℕ) (old new : List Entry
   pub read : List (List Entry)
   pub new_is : new ≡ old ++ joined read
   pub way : IsOnTheWay (entries n) vs i read
-
-pub joining_begins : (n : ℕ) (vs : List Value) (old : List Entry) → IsJoining n vs 0 old old
-joining_begins n vs old = record { read = []; new_is = sym (append-nil old); way = way_begins (entries n) vs }
 
 pub joining_goes_on : (n : ℕ) (vs : List Value) (i : ℕ) (v : Value) (old mid new xs : List Entry) → IsJoining n vs i old mid → i < length vs → v ≡ get_or vs i v → entries n (view v) ≡ Some xs → new ≡ mid ++ xs
     → IsJoining n vs (i + 1) old new
@@ -90,12 +87,6 @@ lengths_from : (ns : List ℕ) (vs : List Value) (i : ℕ) (v : Value) → i < l
     → list_all (has_lengths ns) (map view (drop i vs)) ≡ (has_lengths ns (view v) && list_all (has_lengths ns) (map view (drop (i + 1) vs)))
 lengths_from ns vs i v h e =
     at_drop_more (λ ws. list_all (has_lengths ns) (map view ws)) vs i v h ∙ ap (λ w. list_all (has_lengths ns) (map view (w ∷ drop (i + 1) vs))) (sym e)
-
-pub lengths_begin : (ns : List ℕ) (vs : List Value) → HaveLengths ns vs 0
-lengths_begin ns vs = record { whole_is = refl }
-
-pub lengths_go_on : (ns : List ℕ) (vs : List Value) (i : ℕ) (v : Value) → HaveLengths ns vs i → i < length vs → v ≡ get_or vs i v → has_lengths ns (view v) ≡ true → HaveLengths ns vs (i + 1)
-lengths_go_on ns vs i v so_far h e right = record { whole_is = so_far.whole_is ∙ lengths_from ns vs i v h e ∙ ap (λ b. b && list_all (has_lengths ns) (map view (drop (i + 1) vs))) right }
 
 all_of-so : (n : ℕ) (f : Data → Bool) (vs : List Value) → length vs ≡ n → all_of n f (Some (map view vs)) ≡ list_all f (map view vs)
 all_of-so n f vs e = let t : eqb (length (map view vs)) n ≡ true = eq-eqb _ _ (length-map vs view ∙ e) in rw t refl

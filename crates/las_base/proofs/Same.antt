@@ -4,12 +4,12 @@ use Rattle.std.specs.List.{list_all, list_any}
 use Rattle.std.proofs.lemmas.Bool.{and_parts, cases_Bool, eqb-true, eq-eqb, both_ways}
 use Rattle.las_base.specs.declared.Axis.{Axis}
 use Rattle.las_base.specs.declared.Axis.TheVariants.{I, J, K}
+use Rattle.las_base.specs.declared.Kind.{Kind}
 use Rattle.las_base.specs.declared.Cell.{Cell}
 use Rattle.las_base.specs.declared.Size.{Size}
 use Rattle.las_base.specs.Axes.{same_axis, kind_by, same_kind}
 use Rattle.las_base.specs.Cells.{same_cell, same_size, holds, cells, index}
 use Rattle.las_base.proofs.Blocks.{all_indexed, all_held}
-use Rattle.las_base.specs.declared.Kind.{Kind}
 
 pub same_cell-is : (x y : Cell) → same_cell x y ≡ true → x ≡ y
 same_cell-is x y e =

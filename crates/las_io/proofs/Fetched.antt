@@ -66,7 +66,7 @@ front_lost None bytes buf some front fetched = absurd (omega (arith, ap length f
 front_lost (Some xs) bytes buf some front fetched = absurd fetched
 
 -- files stay
-files_stay : (o : Option (List File)) → FilesStay o o
+pub files_stay : (o : Option (List File)) → FilesStay o o
 files_stay None = tt
 files_stay (Some fs) = refl
 

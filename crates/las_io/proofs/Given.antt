@@ -1,9 +1,9 @@
 -- What a source has given, after one read more and after a whole input.
-use Rattle.std.proofs.Common.{◌≡◌, ℕ, ◌+◌, ◌≤◌, List, [], ◌++◌, length, take, Option, None, Some, refl, sym, ap, ◌∙◌, subst, arith, append-nil, length-append, length-take}
+use Rattle.std.proofs.Common.{◌≡◌, ℕ, ◌+◌, ◌≤◌, List, [], ◌++◌, length, take, Option, refl, sym, ap, ◌∙◌, subst, arith, append-nil, length-append, length-take}
 use Rattle.std.specs.Io.KnownBytes.{Consumes, Keeps}
 use Rattle.std.proofs.KnownBytes.{Consumes-nil, Consumes-trans, Consumes-kept, Consumes-whole}
 use Rattle.las_io.specs.Counts.{count_after}
-use Rattle.las_io.specs.Moves.{Gives, GivesAll, GivesCount, IsAllLeft}
+use Rattle.las_io.specs.Moves.{Gives, GivesAll, IsAllLeft}
 
 -- counting twice counts the sum
 pub count_after-twice : (before n m : ℕ) → count_after (count_after before n) m ≡ count_after before (n + m)
@@ -51,16 +51,3 @@ module _ {S : Type 0} (left : S → Option (List ℕ)) (given : S → ℕ) where
   -- an input that came to its end is all that was left
   pub all_was_left : (before after : S) (bytes : List ℕ) → GivesAll left given before after bytes → IsAllLeft (left before) bytes
   all_was_left before after bytes all = Consumes-whole _ _ _ (λ xs. xs ≡ bytes) all.came.consumed all.end refl
-
--- at least as many bytes as came: all that was left where it is told, and else those that came
-long_from : (told later : Option (List ℕ)) (bytes : List ℕ) → Consumes told later bytes
-    → (all : List ℕ) × IsAllLeft told all × (length bytes ≤ length all)
-long_from None later bytes came = (bytes, tt, omega arith)
-long_from (Some xs) None bytes came = absurd came
-long_from (Some xs) (Some ys) bytes came = (xs, refl, omega (arith, ap length came, length-append {A = ℕ}))
-
--- where so many bytes came, there were at least as many to come: all that was left where the source tells it
-pub as_many_were_left : {S : Type 0} (left : S → Option (List ℕ)) (given : S → ℕ) (before after : S) (count : ℕ) → GivesCount left given before after count
-    → (all : List ℕ) × IsAllLeft (left before) all × (count ≤ length all)
-as_many_were_left left given before after count came =
-    let long = long_from (left before) (left after) came.bytes came.came.consumed in (long.0, long.1, omega (arith, long.2, came.exact))

@@ -1,6 +1,6 @@
 -- The texts of flows, one after the other.
-use Rattle.std.proofs.Common.{◌≡◌, ℕ, suc, ◌+◌, ◌<◌, ◌≤◌, List, [], ◌++◌, length, drop, get_or, sym, ap, ◌∙◌, arith, drop_of_length-le}
-use Rattle.std.proofs.lemmas.List.{append_assoc, append-nil, at_drop_more}
+use Rattle.std.proofs.Common.{◌≡◌, ℕ, suc, ◌+◌, ◌<◌, List, [], ◌++◌, length, drop, get_or, ap, ◌∙◌, arith}
+use Rattle.std.proofs.lemmas.List.{at_drop_more}
 use Rattle.las_base.specs.declared.Pauli.{Pauli}
 use Rattle.grid_box.specs.Drawings.{Drawing}
 use Rattle.grid_box.specs.Surfaces.{Surfaces, sheets_of}
@@ -17,13 +17,3 @@ module _ (d : Drawing) (s : Surfaces) (words : List (List Pauli)) where
   -- what is written, before what is left, is the whole
   abbrev pub AreWritten : ℕ → List ℕ → List ℕ → Type 0
   AreWritten n old text = text ++ flow_texts d s n (drop n words) ≡ old ++ flow_texts d s 0 words
-
-  pub flow_written : (n : ℕ) (old text new line : List ℕ) → n < length words → line ≡ flow_text n (get_or words n []) (labels_from d (sheets_of s n)) → new ≡ text ++ line → AreWritten n old text → AreWritten (n + 1) old new
-  flow_written n old text new line low is grown before =
-      ap (λ l. l ++ flow_texts d s (n + 1) (drop (n + 1) words)) (grown ∙ ap (λ l. text ++ l) is)
-      ∙ append_assoc text (flow_text n (get_or words n []) (labels_from d (sheets_of s n))) (flow_texts d s (n + 1) (drop (n + 1) words))
-      ∙ ap (λ l. text ++ l) (sym (from_flow n low)) ∙ before
-
-  pub flows_written : (n : ℕ) (old text : List ℕ) → length words ≤ n → AreWritten n old text → text ≡ old ++ flow_texts d s 0 words
-  flows_written n old text end before =
-      sym (append-nil text) ∙ ap (λ l. text ++ l) (sym (ap (flow_texts d s n) (drop_of_length-le words {i = n} end))) ∙ before

@@ -19,7 +19,7 @@ use Rattle.lasre_codec.specs.declared.refusal.LasreRefused.{LasreRefused}
 use Rattle.lasre_codec.specs.declared.refusal.LasreRefused.TheVariants.{Length, Shape}
 use Rattle.lasre_codec.specs.Members.{tested}
 use Rattle.lasre_codec.specs.Entries.{entries_of, first_bad, drawing_in, surfaces_in, shows_sheet}
-use Rattle.lasre_codec.specs.Documents.{IsLasre, lasre_as, missing_in, misshapen_in, wrong_length_in, judged, shown_in, given_for, given_by, of_job, lasre_in}
+use Rattle.lasre_codec.specs.Documents.{IsLasre, lasre_as, missing_in, misshapen_in, wrong_length_in, judged, shown_in, given_for, given_by, lasre_in}
 use Rattle.lasre_codec.specs.Kept.{entries_kept, AreKept}
 
 module _ (d : Data) (t : Task) (grids : List (Vec Entry Global)) (kept : AreKept d grids) where
@@ -62,7 +62,3 @@ misshapen_is_refused d e object none is = rw (object, none) (shape_refused (miss
 pub job_given : (d : Data) (t : Task) → is_object d ≡ true → missing_in d ≡ None → misshapen_in d ≡ None → job_in d ≡ Ok t → lasre_in d ≡ given_for t d
 unfolding lasre_in
 job_given d t object none shaped job = rw (object, none, shaped, job) refl
-
-pub job_refused : (d : Data) (r : SpecRefused) → is_object d ≡ true → missing_in d ≡ None → misshapen_in d ≡ None → job_in d ≡ Err r → lasre_in d ≡ Err (of_job r)
-unfolding lasre_in
-job_refused d r object none shaped job = rw (object, none, shaped, job) refl

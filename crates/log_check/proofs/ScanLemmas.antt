@@ -1,15 +1,15 @@
 -- A clause that is gone through once.
-use Rattle.std.proofs.Common.{◌≡◌, ◌⊎◌, ℕ, zero, suc, ◌+◌, ◌-◌, ◌*◌, ◌/◌, ◌%◌, ◌<◌, Bool, true, false, ◌&&◌, ◌||◌, not, cond, List, [], ◌∷◌, ◌++◌, map, length, get_or, take, drop, Option, Some, None, refl, sym, ap, ◌∙◌, subst, arith, inl, inr, nat_eq, nat_lt}
+use Rattle.std.proofs.Common.{◌≡◌, ◌⊎◌, ℕ, ◌+◌, ◌-◌, ◌*◌, ◌/◌, ◌%◌, ◌<◌, Bool, true, false, ◌&&◌, ◌||◌, not, cond, List, [], ◌∷◌, ◌++◌, map, length, get_or, take, drop, Option, Some, None, refl, sym, ap, ◌∙◌, subst, arith, inl, inr, nat_eq, nat_lt}
 use Rattle.std.specs.List.{list_all, list_any}
 use Rattle.std.specs.Option.{option_map}
-use Rattle.std.proofs.lemmas.Bool.{and_parts, eq-eqb, eqb-true, eqb-false, ne_eqb, ltb-true, cases_eq, or_left, or_right, or_from}
+use Rattle.std.proofs.lemmas.Bool.{eq-eqb, eqb-true, eqb-false, ne_eqb, cases_eq, or_left, or_right, or_from}
 use Rattle.std.proofs.lemmas.List.{drop_more, map-append, take_more}
 use Rattle.std.proofs.lemmas.List.Folds.{list_any-append}
 use Rattle.cnf_base.specs.declared.literal.Lit.{Lit}
 use Rattle.cnf_base.specs.Literals.{variable, negation, same_lit, has_lit, Clause, are_below}
 use Rattle.cnf_base.specs.Units.{Look, Falsified, OneOpen, Loose, open_lits, look_of, look}
 use Rattle.cnf_base.specs.Logs.{clause_of, at_look, at_hint, hint_fault, distinct_vars}
-use Rattle.cnf_base.proofs.LitLemmas.{variable-negation}
+use Rattle.cnf_base.proofs.LitLemmas.{nat_eq-sym, variable-negation}
 use Rattle.log_check.specs.Scans.{open_then, has_var, is_fresh}
 
 parity : (n : ℕ) → (n % 2 ≡ 0) ⊎ (n % 2 ≡ 1)
@@ -17,12 +17,6 @@ parity n = search arith
 
 pub negation_within : (l : Lit) (vars : ℕ) → variable l < vars → variable (negation l) < vars
 negation_within l vars h = subst (λ n. n < vars) (sym (variable-negation l)) h
-
--- a literal of a clause that is below
-pub below_at : (vars : ℕ) (c : List Lit) (i : ℕ) (d : Lit) → are_below vars c ≡ true → i < length c → variable (get_or c i d) < vars
-below_at vars [] i d all h = absurd (omega arith)
-below_at vars (l ∷ ls) zero d all h = ltb-true (variable l) vars (and_parts (nat_lt (variable l) vars) (are_below vars ls) all).0
-below_at vars (l ∷ ls) (suc i) d all h = below_at vars ls i d (and_parts (nat_lt (variable l) vars) (are_below vars ls) all).1 (omega arith)
 
 -- what follows from the open literal, or loose
 abbrev pub or_loose : Option (Option Lit) → (Option Lit → Look) → Look
@@ -111,16 +105,10 @@ abbrev pub are_fresh : ℕ → List Lit → List Lit → Bool
 are_fresh vars seen [] = true
 are_fresh vars seen (l ∷ ls) = (nat_lt (variable l) vars && not (has_var seen l)) && are_fresh vars (seen ++ l ∷ []) ls
 
-eq_sym : (a b : ℕ) → nat_eq a b ≡ nat_eq b a
-eq_sym a b = elim (cases_eq a b) as (λ _. nat_eq a b ≡ nat_eq b a) [
-  | inl e ↦ eq-eqb a b e ∙ sym (eq-eqb b a (sym e))
-  | inr n ↦ ne_eqb a b n ∙ sym (ne_eqb b a (λ e. n (sym e)))
-]
-
 all_not : (seen : List Lit) (l : Lit) (ls : List Lit) → list_all (λ m. not (has_var (seen ++ l ∷ []) m)) ls ≡ (list_all (λ m. not (has_var seen m)) ls && not (list_any (λ m. nat_eq (variable l) (variable m)) ls))
 all_not seen l [] = refl
 all_not seen l (m ∷ ms) =
-    ap (λ b. not b && list_all (λ m. not (has_var (seen ++ l ∷ []) m)) ms) (list_any-append (λ k. nat_eq (variable m) (variable k)) seen (l ∷ []) ∙ ap (λ b. has_var seen m || (b || false)) (eq_sym (variable m) (variable l)))
+    ap (λ b. not b && list_all (λ m. not (has_var (seen ++ l ∷ []) m)) ms) (list_any-append (λ k. nat_eq (variable m) (variable k)) seen (l ∷ []) ∙ ap (λ b. has_var seen m || (b || false)) (nat_eq-sym (variable m) (variable l)))
     ∙ ap (λ b. not (has_var seen m || (nat_eq (variable l) (variable m) || false)) && b) (all_not seen l ms)
     ∙ shuffle (has_var seen m) (nat_eq (variable l) (variable m)) (list_all (λ m. not (has_var seen m)) ms) (list_any (λ m. nat_eq (variable l) (variable m)) ms)
   where

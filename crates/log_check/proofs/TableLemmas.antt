@@ -16,15 +16,6 @@ ids_above low [] last k rise h = absurd (omega arith)
 ids_above low (e ∷ es) last zero rise h = omega (arith, rise.0)
 ids_above low (e ∷ es) last (suc k) rise h = omega (arith, rise.0, ids_above e.id es last k rise.1 (omega arith))
 
-pub ids_within : (low : ℕ) (es : List Entry) (last k : ℕ) → Rises low es last → k < length es → id_at es k ≤ last
-ids_within low [] last k rise h = absurd (omega arith)
-ids_within low (e ∷ es) last zero rise h = low_within e.id es last rise.1
-  where
-    low_within : (low : ℕ) (es : List Entry) (last : ℕ) → Rises low es last → low ≤ last
-    low_within low [] last rise = rise
-    low_within low (e ∷ es) last rise = omega (arith, rise.0, low_within e.id es last rise.1)
-ids_within low (e ∷ es) last (suc k) rise h = ids_within e.id es last k rise.1 (omega arith)
-
 pub ids_in_order : (low : ℕ) (es : List Entry) (last j k : ℕ) → Rises low es last → j < k → k < length es → id_at es j < id_at es k
 ids_in_order low [] last j k rise h g = absurd (omega arith)
 ids_in_order low (e ∷ es) last j zero rise h g = absurd (omega arith)

@@ -1,5 +1,5 @@
 -- Half of the lessons, of those that may go.
-use Rattle.std.proofs.Common.{◌≡◌, ℕ, zero, suc, ◌+◌, ◌/◌, ◌<◌, ◌≤◌, min, Bool, true, false, cond, nat_eq, List, [], ◌∷◌, ◌++◌, length, take, get_or, refl, sym, ap, ◌∙◌, subst, arith, inl, inr, length-take}
+use Rattle.std.proofs.Common.{◌≡◌, ℕ, zero, suc, ◌+◌, ◌/◌, ◌<◌, ◌≤◌, min, Bool, true, false, cond, nat_eq, List, [], ◌∷◌, length, take, get_or, refl, sym, ap, ◌∙◌, subst, arith, inl, inr, length-take}
 use Rattle.std.specs.Prelude.{Result, Ok, Err, IfOk}
 use Rattle.std.specs.List.{filter, count_by, sum_by}
 use Rattle.std.specs.List.Sorted.{IsPermutation}
@@ -114,19 +114,6 @@ pub record IsFinding (n : ℕ) (t : Seen) (cs : List Live) (refs : List ClauseRe
   pub found : clauses_of idle ≡ filter (λ (r : ClauseRef). is_idle_lesson n t cs r.0) (take i refs)
   pub count : lessons ≡ count_by (λ (r : ClauseRef). is_lesson n cs r.0) (take i refs)
   pub few : lessons ≤ i
-
-filter_suc : (p : ClauseRef → Bool) (refs : List ClauseRef) (i : ℕ) → i < length refs → filter p (take (suc i) refs) ≡ filter p (take i refs) ++ cond (p (get_or refs i (record { 0 = 0 }))) (get_or refs i (record { 0 = 0 }) ∷ []) []
-filter_suc p [] i lt = absurd (omega arith)
-filter_suc p (r ∷ rs) zero lt = refl
-filter_suc p (r ∷ rs) (suc i) lt = at (p r) (filter_suc p rs i (omega arith))
-  where
-    at : (b : Bool) → filter p (take (suc i) rs) ≡ filter p (take i rs) ++ cond (p (get_or rs i (record { 0 = 0 }))) (get_or rs i (record { 0 = 0 }) ∷ []) [] → cond b (r ∷ filter p (take (suc i) rs)) (filter p (take (suc i) rs)) ≡ cond b (r ∷ filter p (take i rs)) (filter p (take i rs)) ++ cond (p (get_or rs i (record { 0 = 0 }))) (get_or rs i (record { 0 = 0 }) ∷ []) []
-    at true e = ap (λ xs. r ∷ xs) e
-    at false e = e
-
-clauses_more : (idle : List Idle) (x : Idle) → clauses_of (idle ++ x ∷ []) ≡ clauses_of idle ++ x.clause ∷ []
-clauses_more [] x = refl
-clauses_more (y ∷ ys) x = ap (λ rs. y.clause ∷ rs) (clauses_more ys x)
 
 pub all_found : (n : ℕ) (t : Seen) (cs : List Live) (refs : List ClauseRef) (i : ℕ) (idle : List Idle) (lessons : ℕ) → length refs ≤ i → places_of refs ≡ places cs → IsFinding n t cs refs i idle lessons → AreIdle n t cs (clauses_of idle) lessons
 all_found n t cs refs i idle lessons le all h = record {

@@ -2,7 +2,7 @@ use Rattle.std.proofs.Common.{rules, ◌≡◌, ◌-◌, ◌++◌, ◌∙◌, ap
 use Rattle.las_io.specs.Shelves.{FilesStay}
 use Rattle.las_io.proofs.Rises.{stays}
 use Rattle.las_io.proofs.Fetched.{told_before}
-use Rattle.clause_log.specs.Leaving.{stay_through}
+use Rattle.las_io.proofs.Fetched.{stay_twice}
 use Rattle.clause_log.specs.Pieces.{PieceComes, bytes_from, hand_in, is_one_line, reader_ahead}
 use Rattle.clause_log.proofs.PieceLemmas.{came_well, end_told, limit_told, log_kept, log_torn, place_after, torn_more, torn_told}
 use Rattle.clause_log.proofs.step_reader.StepReader.next_step.Goals as goal
@@ -22,7 +22,7 @@ returns-then-is_empty-clause-gives g c =
     let n = c.take_piece.new.self in
     let hand : List ℕ = hand_in s.piece.items s.at s.filled in
     let both : List ℕ = c.extend_from_slice.new.self.items in
-    let stays : FilesStay (g.H.Shelf.files f.shelf.now) (g.H.Shelf.files n.shelf.now) = stay_through (g.H.Shelf.files f.shelf.now) (g.H.Shelf.files s.shelf.now) (g.H.Shelf.files n.shelf.now) c.loop-count.invariant.files c.in_ok-take_piece.ensures.files in
+    let stays : FilesStay (g.H.Shelf.files f.shelf.now) (g.H.Shelf.files n.shelf.now) = stay_twice (g.H.Shelf.files f.shelf.now) (g.H.Shelf.files s.shelf.now) (g.H.Shelf.files n.shelf.now) c.loop-count.invariant.files c.in_ok-take_piece.ensures.files in
     let log = log_torn (g.H.Shelf.files f.shelf.now) (string_bytes f.name) c.loop-count.torn.items hand both (hand_in f.piece.items f.at f.filled) s.taken f.taken (search rules) c.loop-count.invariant.log in
     let comes = told_before (λ fs. PieceComes (bytes_from (string_bytes s.name) s.taken fs) n.piece.items n.filled) (g.H.Shelf.files f.shelf.now) (g.H.Shelf.files s.shelf.now) c.loop-count.invariant.files c.in_ok-take_piece.ensures.comes in
     end_told (g.H.Shelf.files f.shelf.now) (g.H.Shelf.files n.shelf.now) (string_bytes f.name) (string_bytes s.name) (string_bytes n.name) both (hand_in f.piece.items f.at f.filled) n.piece.items s.taken f.taken f.line n.line n.filled n.at n.taken stays (search rules) (search rules) (search rules) (search rules) (search rules) (search rules) comes (search rules) log
@@ -57,7 +57,7 @@ loop-count-preserved g c =
       one_line = ap is_one_line joined ∙ torn_more c.loop-count.torn.items hand c.loop-count.invariant.one_line (search rules);
       place = place_after c.loop-count.torn.items both s.piece.items s.at s.filled (f.taken - (f.filled - f.at)) n.at n.filled s.taken n.taken joined (search rules) (search rules) (search rules) (search rules) c.loop-count.invariant.place;
       log = log_kept (g.H.Shelf.files f.shelf.now) (string_bytes f.name) (string_bytes s.name) both (hand_in f.piece.items f.at f.filled) n.piece.items s.taken f.taken n.filled n.at n.taken (search rules) (search rules) (search rules) (search rules) comes log;
-      files = stay_through (g.H.Shelf.files f.shelf.now) (g.H.Shelf.files s.shelf.now) (g.H.Shelf.files n.shelf.now) c.loop-count.invariant.files c.in_ok-take_piece.ensures.files;
+      files = stay_twice (g.H.Shelf.files f.shelf.now) (g.H.Shelf.files s.shelf.now) (g.H.Shelf.files n.shelf.now) c.loop-count.invariant.files c.in_ok-take_piece.ensures.files;
       begun = search rules;
       faults = stays _ _ _ c.loop-count.invariant.faults c.in_ok-take_piece.ensures.cause.later (λ rose. came_well _ _ (c.in_ok-take_piece.ensures.cause.rises rose));
     }
